@@ -1,0 +1,4 @@
+pub mod Laws
+mod Arms
+mod Weights
+mod Rows

@@ -1,0 +1,4 @@
+pub mod Clocks
+pub mod Lines
+pub mod Tables
+pub mod Coefficients

@@ -1,0 +1,106 @@
+// The coefficients of creep and shrinkage, and the clocks by which they are read.
+ghost use mathlib.Core.Path.{_≡_};
+ghost use Prim.Native.Nat.{_-_, max};
+ghost use Rattle.logarithm.specs.Logarithm.{logarithm, IsTable};
+ghost use Rattle.coefficient.specs.Coefficients.{scf, ssf, mcf, creepShare, shrinkageShare, ucr, ush};
+
+pub mod clocks;
+pub mod codes;
+pub mod tables;
+
+use clocks::HoursSinceCuring;
+use clocks::HoursSinceTensioning;
+use clocks::HoursSinceTransfer;
+use codes::Concrete;
+use codes::Cure;
+use tables::Table;
+
+// The creep factor of volume/surface, in 102,400ths.
+pub fn scf_of(volume_to_surface: u32) -> u64
+    ensures { λ r. ⌜ r ≡ scf «volume_to_surface» ⌝ }
+{
+    tables::table_reading(Table::Scf, 0, volume_to_surface)
+}
+
+// The shrinkage factor of volume/surface, in 102,400ths.
+pub fn ssf_of(volume_to_surface: u32) -> u64
+    ensures { λ r. ⌜ r ≡ ssf «volume_to_surface» ⌝ }
+{
+    tables::table_reading(Table::Ssf, 0, volume_to_surface)
+}
+
+// The creep factor of the age at transfer, in 72,000ths.
+pub fn mcf_of(cure: Cure, transfer: u32) -> u64
+    ensures { λ r. ⌜ r ≡ mcf cure transfer ⌝ }
+{
+    match cure {
+        Cure::Moist => tables::table_reading(Table::Mcf, 0, transfer),
+        Cure::Accelerated => 72_000,
+    }
+}
+
+// The share of creep that is done, in 1/T. The clock reads `life` at the end of the service life.
+pub fn creep_share(life: HoursSinceTransfer, clock: HoursSinceTransfer) -> u64
+    ensures { λ r. ⌜ r ≡ creepShare life clock ⌝ }
+{
+    tables::table_reading(Table::CreepShare, life.0, clock.0)
+}
+
+// The share of shrinkage that is done, in 1/T.
+pub fn shrinkage_share(life: HoursSinceCuring, clock: HoursSinceCuring) -> u64
+    ensures { λ r. ⌜ r ≡ shrinkageShare life clock ⌝ }
+{
+    tables::table_reading(Table::ShrinkageShare, life.0, clock.0)
+}
+
+// The logarithm of relaxation's clock.
+pub fn relaxation_logarithm(
+    thresholds: &[u32; logarithm::ENTRIES],
+    clock: HoursSinceTensioning,
+) -> u64
+    requires { ⌜ IsTable (now thresholds) ⌝ }
+    ensures { λ r. ⌜ r ≡ logarithm (clock .0) ⌝ }
+{
+    logarithm::reading(thresholds, clock.0)
+}
+
+const UCR_LEAST: u64 = 11_000_000;
+
+const USH_LEAST: u64 = 12_000_000_000;
+
+// from - less, where that is more than `least`.
+fn reduced(from: u64, less: u64, least: u64) -> u64
+    ensures { λ r. ⌜ r ≡ max least (from - less) ⌝ }
+{
+    if less < from {
+        let left = from - less;
+        if least < left {
+            return left;
+        }
+    }
+    least
+}
+
+// The whole creep of 1 psi of concrete stress, in millionths of psi.
+pub fn ucr_of(cure: Cure, concrete: Concrete, ec: u32) -> u64
+    ensures { λ r. ⌜ r ≡ ucr cure concrete ec ⌝ }
+{
+    let base = match cure {
+        Cure::Moist => match concrete {
+            Concrete::Normal => 95_000_000,
+            Concrete::Lightweight => 76_000_000,
+        },
+        Cure::Accelerated => 63_000_000,
+    };
+    reduced(base, 20 * (ec as u64), UCR_LEAST)
+}
+
+// The whole shrinkage, in millionths of psi.
+pub fn ush_of(concrete: Concrete, ec: u32) -> u64
+    ensures { λ r. ⌜ r ≡ ush concrete ec ⌝ }
+{
+    match concrete {
+        Concrete::Normal => reduced(27_000_000_000, 3_000 * (ec as u64), USH_LEAST),
+        Concrete::Lightweight => reduced(41_000_000_000, 10_000 * (ec as u64), USH_LEAST),
+    }
+}

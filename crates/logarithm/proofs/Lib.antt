@@ -1,0 +1,4 @@
+pub mod Largest
+pub mod Laws
+mod Entries
+mod Rule

@@ -1,0 +1,5 @@
+pub mod Laws
+mod Bits
+mod Values
+mod Readings
+mod Bytes
