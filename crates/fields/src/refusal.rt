@@ -1,0 +1,57 @@
+// Refusals, and what reading a card or a list gives.
+ghost use mathlib.Core.Path.{_≡_};
+ghost use Rattle.fields.specs.Refusals.{number, place};
+
+// A case for each row of document 01's table, with its place where that varies.
+pub enum Refusal {
+    Shape(u64),
+    Doubles(u64),
+    Codes(u64),
+    Ranges(u64),
+    Hours(u64),
+    Duct(u64),
+    Buffers(u64),
+    Section,
+    Creep,
+    Stress(u64),
+}
+
+// The counts of segments and of ages, their fields read; or a refusal.
+pub enum Reading {
+    Fields(u64, u64),
+    Not(Refusal),
+}
+
+pub fn number_of(refusal: Refusal) -> u64
+    ensures { λ r. ⌜ r ≡ number refusal ⌝ }
+{
+    match refusal {
+        Refusal::Shape(_) => 8,
+        Refusal::Doubles(_) => 9,
+        Refusal::Codes(_) => 1,
+        Refusal::Ranges(_) => 2,
+        Refusal::Hours(_) => 3,
+        Refusal::Duct(_) => 4,
+        Refusal::Buffers(_) => 10,
+        Refusal::Section => 5,
+        Refusal::Creep => 6,
+        Refusal::Stress(_) => 7,
+    }
+}
+
+pub fn place_of(refusal: Refusal) -> u64
+    ensures { λ r. ⌜ r ≡ place refusal ⌝ }
+{
+    match refusal {
+        Refusal::Shape(line) => line,
+        Refusal::Doubles(field) => field,
+        Refusal::Codes(field) => field,
+        Refusal::Ranges(field) => field,
+        Refusal::Hours(field) => field,
+        Refusal::Duct(check) => check,
+        Refusal::Buffers(buffer) => buffer,
+        Refusal::Section => 14,
+        Refusal::Creep => 17,
+        Refusal::Stress(age) => age,
+    }
+}
