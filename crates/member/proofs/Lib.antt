@@ -1,0 +1,5 @@
+pub mod Laws
+mod Rows
+mod RowPlaces
+mod Items
+mod Holding

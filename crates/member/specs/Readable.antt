@@ -1,0 +1,14 @@
+-- What a reader hands over: the counts in their ranges, and fields of at most 14 digits. Assumes nothing.
+use Prim.Native.Nat.{ℕ, _≤_, _<_, _^_}
+use mathlib.Core.List.{List}
+use lib.ListN.{getD}
+use Rattle.fields.specs.Layout.{mostSegments, leastAges, mostAges}
+
+abbrev pub Small : List ℕ → Type 0
+Small fields = (k : ℕ) → getD fields k 0 < 10 ^ 14
+
+pub record Readable (segments ages : ℕ) (fields : List ℕ) : Type 0 where
+  pub segments-most : segments ≤ mostSegments
+  pub ages-least : leastAges ≤ ages
+  pub ages-most : ages ≤ mostAges
+  pub small : Small fields

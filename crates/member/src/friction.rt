@@ -1,0 +1,69 @@
+// X, the friction of a path.
+ghost use mathlib.Core.Path.{_≡_};
+ghost use Prim.Native.Nat.{_≤_};
+ghost use Rattle.member.specs.Quantities.{wobble, curvature};
+ghost use Rattle.member.specs.Rows.{firstFailing, duct};
+ghost use Rattle.member.specs.Friction.{wobblePart, curvaturePart};
+ghost use Rattle.member.specs.Parts.{segment};
+ghost use Rattle.member.specs.Facts.{SegmentFits, PathFits, mostPart};
+ghost use Rattle.member.specs.Member.{frictionOf};
+use crate::places;
+use crate::row;
+
+// T = 2^24
+const T: u64 = 16_777_216;
+
+// Ticks to a foot or a radian.
+const TICKS: u64 = 1_024;
+
+const MILLION: u64 = 1_000_000;
+
+const MOST_FRICTION: u64 = 5_033_164;
+
+fn wobble_part(wobble: u64, kind: u64, length: u64, rise: u64) -> u64
+    requires { ⌜ (wobble ≤ 2000) × SegmentFits (segment kind length rise) ⌝ }
+    ensures { λ r. ⌜ (r ≡ wobblePart wobble (segment kind length rise)) × (r ≤ mostPart) ⌝ }
+{
+    wobble * length * T / (TICKS * MILLION)
+}
+
+fn curvature_part(curvature: u64, kind: u64, length: u64, rise: u64) -> u64
+    requires { ⌜ (curvature ≤ 400000) × SegmentFits (segment kind length rise) ⌝ }
+    ensures { λ r. ⌜ (r ≡ curvaturePart curvature (segment kind length rise)) × (r ≤ mostPart) ⌝ }
+{
+    if kind == places::BEND {
+        return curvature * rise * T / (TICKS * MILLION);
+    }
+    if kind == places::PARABOLA {
+        return curvature * (2 * rise) * T / (length * MILLION);
+    }
+    0
+}
+
+pub fn path_friction(fields: &[u64; places::MOST_FIELDS], segments: usize) -> u64
+    requires { ⌜ PathFits segments (now fields) ⌝ }
+    ensures { λ r. ⌜ r ≡ frictionOf segments (now (fields .entry)) ⌝ }
+{
+    let wobble = fields[places::WOBBLE];
+    let curvature = fields[places::CURVATURE];
+    let mut friction = 0u64;
+    let mut segment = 0usize;
+    while segment < segments {
+        let at = places::HEAD_FIELDS + places::PER_SEGMENT * segment;
+        let kind = fields[at];
+        let length = fields[at + 1];
+        let rise = fields[at + 2];
+        friction += wobble_part(wobble, kind, length, rise);
+        friction += curvature_part(curvature, kind, length, rise);
+        segment += 1;
+    }
+    friction
+}
+
+// Row "duct".
+pub fn first_failing(pretensioned: bool, segments: u64, friction: u64) -> u64
+    ensures { λ r. ⌜ r ≡ firstFailing (duct pretensioned segments friction) ⌝ }
+{
+    let failing = row::first(0, 1, row::implies(pretensioned, segments == 0));
+    row::first(failing, 2, friction <= MOST_FRICTION)
+}

@@ -1,0 +1,63 @@
+// Row "hours". A place is the number of a field.
+ghost use mathlib.Core.Path.{_≡_};
+ghost use Rattle.fields.specs.Layout.{firstAgeField};
+ghost use Rattle.member.specs.Quantities.{agesOf, transfer};
+ghost use Rattle.member.specs.Rows.{firstFailing, curingFits, transferFits, hoursOfAges, hours};
+ghost use Rattle.member.specs.Readable.{Readable};
+use crate::places;
+use crate::row;
+use coefficient::clocks;
+
+fn curing_fits(fields: &[u64; places::MOST_FIELDS]) -> bool
+    ensures { λ r. ⌜ r ≡ curingFits (now (fields .entry)) ⌝ }
+{
+    let curing = fields[places::END_OF_CURING];
+    let transfer = fields[places::TRANSFER];
+    let pretensioned = fields[places::KIND] == places::PRETENSIONED;
+    let kind = row::implies(pretensioned, curing == transfer);
+    let moist = fields[places::CURE] == places::MOIST;
+    let cure = row::implies(moist, curing <= 168);
+    row::both(row::both(curing <= transfer, kind), cure)
+}
+
+fn transfer_fits(fields: &[u64; places::MOST_FIELDS]) -> bool
+    ensures { λ r. ⌜ r ≡ transferFits (now (fields .entry)) ⌝ }
+{
+    let least = if fields[places::CURE] == places::MOIST {
+        72
+    } else {
+        1
+    };
+    row::in_range(least, 960, fields[places::TRANSFER])
+}
+
+fn age_hours(fields: &[u64; places::MOST_FIELDS], segments: usize, ages: usize) -> u64
+    requires { ⌜ Readable segments ages (now fields) ⌝ }
+    ensures { λ r. ⌜ r ≡ firstFailing (hoursOfAges (firstAgeField segments) (transfer (now (fields .entry)))
+        (agesOf segments ages (now (fields .entry)))) ⌝ }
+{
+    let first_age = places::HEAD_FIELDS + places::PER_SEGMENT * segments;
+    let mut earlier = fields[places::TRANSFER];
+    let mut age = 0usize;
+    while age < ages {
+        let at = first_age + places::PER_AGE * age;
+        let hour = fields[at];
+        let rises = row::both(earlier < hour, hour <= clocks::SERVICE_LIFE as u64);
+        let failing = row::first(0, (at + 1) as u64, rises);
+        if failing != 0 {
+            return failing;
+        }
+        earlier = hour;
+        age += 1;
+    }
+    0
+}
+
+pub fn first_failing(fields: &[u64; places::MOST_FIELDS], segments: usize, ages: usize) -> u64
+    requires { ⌜ Readable segments ages (now fields) ⌝ }
+    ensures { λ r. ⌜ r ≡ firstFailing (hours segments ages (now (fields .entry))) ⌝ }
+{
+    let failing = row::first(0, 19, curing_fits(fields));
+    let failing = row::first(failing, 20, transfer_fits(fields));
+    row::or_else(failing, age_hours(fields, segments, ages))
+}

@@ -1,0 +1,45 @@
+// κ, U and S of a section.
+ghost use mathlib.Core.Path.{_≡_};
+ghost use Prim.Native.Nat.{_≤_};
+ghost use Rattle.member.specs.Constants.{kappa, wholeCreep, wholeShrinkage};
+ghost use Rattle.member.specs.Facts.{SectionFits, mostCreep};
+use coefficient::codes::Concrete;
+use coefficient::codes::Cure;
+
+// 2^32
+const WHOLE: u64 = 4_294_967_296;
+
+// 2^32 over 1,024 twice
+const WHOLE_OF_TICKS: u64 = 4_096;
+
+pub fn kappa_of(steel_area: u64, area: u64, eccentricity: u64, inertia: u64) -> u64
+    requires { ⌜ SectionFits «steel_area» area eccentricity inertia ⌝ }
+    ensures { λ r. ⌜ r ≡ kappa «steel_area» area eccentricity inertia ⌝ }
+{
+    let axial = steel_area * WHOLE / area;
+    let bending = WHOLE_OF_TICKS * steel_area * (eccentricity * eccentricity) / inertia;
+    axial + bending
+}
+
+pub fn whole_creep(
+    cure: Cure,
+    concrete: Concrete,
+    ec: u32,
+    volume_to_surface: u32,
+    transfer: u32,
+) -> u64
+    ensures { λ r. ⌜ (r ≡ wholeCreep cure concrete ec «volume_to_surface» transfer) × (r ≤ mostCreep) ⌝ }
+{
+    let ucr = coefficient::ucr_of(cure, concrete, ec);
+    let scf = coefficient::scf_of(volume_to_surface);
+    let mcf = coefficient::mcf_of(cure, transfer);
+    ucr * scf * mcf / 439_453_125
+}
+
+pub fn whole_shrinkage(concrete: Concrete, ec: u32, volume_to_surface: u32) -> u64
+    ensures { λ r. ⌜ r ≡ wholeShrinkage concrete ec «volume_to_surface» ⌝ }
+{
+    let ush = coefficient::ush_of(concrete, ec);
+    let ssf = coefficient::ssf_of(volume_to_surface);
+    ush * ssf / 100_000_000
+}
