@@ -1,0 +1,170 @@
+-- The invariant is `Progress`: the rows of the ages before stand in the scratch, and the ages from here on decide the rest. An age
+-- that is passed keeps it; the loop ends with the last age, or where no stress is left. Assumes nothing.
+use Prim.Native.Nat.{_-_}
+use borrow.Author.Needs.{needs}
+use denote.Ref.{now}
+use lib.ListN.{getD}
+use native.Mathlib.Omega.{arith}
+use Rattle.losses.proofs.Clocks.{done-bounded}
+use Rattle.losses.proofs.Running.{Progress, begins, ends, moment-fits, hour-fits, room-for-row, stops, turns}
+use Rattle.losses.proofs.ages.run_ages.Statement.{statement}
+use Rattle.losses.proofs.ages.run_ages.Tie as tie
+
+abbrev Inv-loop : tie.InvT-loop
+Inv-loop m thresholds fields stress scratch₀ hours ages interval₀ field₀ at₀ number₀ scratch interval field at number =
+    Progress m fields stress scratch₀ scratch interval field at number
+
+abbrev μ-loop : tie.MeasureT-loop
+μ-loop m thresholds fields stress scratch₀ hours ages interval₀ field₀ at₀ number₀ scratch interval field at number =
+    ages - number
+
+done-at-requires : tie.Need-done-at-requires Inv-loop μ-loop
+done-at-requires c κs = search needs
+
+mul-field : tie.Need-mul-field Inv-loop μ-loop
+mul-field c = search needs
+
+add-field : tie.Need-add-field Inv-loop μ-loop
+add-field c = search needs
+
+loop-holds : tie.Need-loop-holds Inv-loop μ-loop
+loop-holds c =
+    let start = c .before .before .before in
+    let args = start .args in
+    begins (args .m) (now (args .fields)) (args .stress) (now (args .scratch)) _ (start .pre .0 .0) (start .pre .0 .1)
+    (start .pre .1 .1) (start .pre .1 .2) (rw (c .done-at .ensures))
+
+add-number : tie.Need-add-number Inv-loop μ-loop
+add-number c = search needs
+
+mul-hour : tie.Need-mul-hour Inv-loop μ-loop
+mul-hour c = search needs
+
+element-copy-out-hour : tie.Need-element-copy-out-hour Inv-loop μ-loop
+element-copy-out-hour c = search needs
+
+cast-hour : tie.Need-cast-hour Inv-loop μ-loop
+cast-hour c = record { fits = hour-fits _ _ _ _ _ _ _ _ _ (c .before .before .loop .inv) (c .before .loop-test .taken) }
+
+add-moment : tie.Need-add-moment Inv-loop μ-loop
+add-moment c = search needs
+
+mul-moment : tie.Need-mul-moment Inv-loop μ-loop
+mul-moment c = search needs
+
+element-copy-out-moment : tie.Need-element-copy-out-moment Inv-loop μ-loop
+element-copy-out-moment c = search needs
+
+done-at-requires-2 : tie.Need-done-at-requires-2 Inv-loop μ-loop
+done-at-requires-2 c κs = search needs
+
+passed-by-requires : tie.Need-passed-by-requires Inv-loop μ-loop
+passed-by-requires c κs =
+    let turn = c .before .before .before in
+    let start = turn .before .before .before .before .before in
+    let hour = getD (now (start .args .fields)) (turn .before .loop .field) 0 in (
+      (
+        start .pre .0 .0,
+        turn .before .loop .inv .bounds,
+        rw (c .done-at2 .ensures) (done-bounded (start .args .m .hours) hour),
+      ),
+      moment-fits _ _ _ _ _ _ _ _ _ (turn .before .loop .inv) (turn .loop-test .taken),
+    )
+
+enum-known-losses : tie.Need-enum-known-losses Inv-loop μ-loop
+enum-known-losses c = search needs
+
+enum-told : tie.Need-enum-told Inv-loop μ-loop
+enum-told c = search needs
+
+same-length : tie.Need-same-length Inv-loop μ-loop
+same-length c = c .before .before .before .before .before .before .before .loop .inv .kept
+
+returns : tie.Need-returns Inv-loop μ-loop
+returns c =
+    let reached = c .before .before in
+    let turn = reached .before .before .before .before in
+    stops _ _ _ _ _ _ _ _ _ (turn .before .loop .inv) (turn .loop-test .taken) _ (reached .before .done-at2 .ensures)
+    _ (reached .passed-by .ensures) (c .enum-told .given .1)
+
+mul-write-row : tie.Need-mul-write-row Inv-loop μ-loop
+mul-write-row c =
+    let progress = c .before .before .before .before .before .before .before .before .loop .inv in
+    omega arith
+
+sub-write-row : tie.Need-sub-write-row Inv-loop μ-loop
+sub-write-row c = search needs
+
+part-write-row-start : tie.Need-part-write-row-start Inv-loop μ-loop
+part-write-row-start c = search needs
+
+part-write-row-end : tie.Need-part-write-row-end Inv-loop μ-loop
+part-write-row-end c = search needs
+
+write-row-requires : tie.Need-write-row-requires Inv-loop μ-loop
+write-row-requires c κs =
+    let turn = c .before .before .before .before .before .before .before .before in
+    room-for-row _ _ _ _ _ _ _ _ _ (turn .before .loop .inv) (turn .loop-test .taken)
+
+add-field-2 : tie.Need-add-field-2 Inv-loop μ-loop
+add-field-2 c =
+    let progress = c .before .before .before .before .before .before .before .before .before .before .before .before .loop .inv in
+    omega arith
+
+add-at : tie.Need-add-at Inv-loop μ-loop
+add-at c =
+    let progress = c .before .before .before .before .before .before .before .before .before .before .before .before .loop .inv in
+    omega arith
+
+loop-less : tie.Need-loop-less Inv-loop μ-loop
+loop-less c = search needs
+
+loop-again : tie.Need-loop-again Inv-loop μ-loop
+loop-again c =
+    let written = c .before .before in
+    let passes = written .before .before .before in
+    let reached = passes .before .before in
+    let turn = reached .before .before .before .before in
+    turns _ _ _ _ _ _ _ _ _ (turn .before .loop .inv) (turn .loop-test .taken) _ (reached .before .done-at2 .ensures)
+    _ (reached .passed-by .ensures) _ _ _ (passes .losses .given .1) (written .write-row .ensures)
+
+same-length-2 : tie.Need-same-length-2 Inv-loop μ-loop
+same-length-2 c = c .before .loop .inv .kept
+
+returns-2 : tie.Need-returns-2 Inv-loop μ-loop
+returns-2 c = ends _ _ _ _ _ _ _ _ _ (c .before .loop .inv) (c .loop-test .left)
+
+pub run-ages-spec : {M : Type 1} → statement M
+run-ages-spec =
+    tie.close
+    (tie.spec
+    Inv-loop
+    μ-loop
+    done-at-requires
+    mul-field
+    add-field
+    loop-holds
+    add-number
+    mul-hour
+    element-copy-out-hour
+    cast-hour
+    add-moment
+    mul-moment
+    element-copy-out-moment
+    done-at-requires-2
+    passed-by-requires
+    enum-known-losses
+    enum-told
+    same-length
+    returns
+    mul-write-row
+    sub-write-row
+    part-write-row-start
+    part-write-row-end
+    write-row-requires
+    add-field-2
+    add-at
+    loop-less
+    loop-again
+    same-length-2
+    returns-2)

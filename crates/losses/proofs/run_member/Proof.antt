@@ -1,0 +1,113 @@
+-- The three ways of a run: no stress is left before the ages, or at an age, or the rows are copied to the report. Assumes nothing.
+use borrow.Author.Needs.{needs}
+use denote.Ref.{now}
+use mathlib.Core.Path.{_≡_, sym, _∙_}
+use Rattle.losses.proofs.Answering.{last-fits, none-begins, none-left, all-passed}
+use Rattle.losses.proofs.Beginning.{begun-fits}
+use Rattle.losses.proofs.run_member.Statement.{statement}
+use Rattle.losses.proofs.run_member.Tie as tie
+use Rattle.losses.specs.BeforeAges.{begunOf}
+use Rattle.losses.specs.declared.Begun.the-variants.{Begins}
+use Rattle.member.specs.Quantities.{agesOf}
+
+-- the losses before the ages are the definition's
+begun : (c : tie.After-known-told)
+    → Begins (c .before .losses .given .0 .0) ≡ begunOf (c .before .before .before .before .before .before .before .before .args .m)
+begun c = sym (c .before .losses .given .1) ∙ c .before .before .before .begin .ensures
+
+thresholds-requires : tie.Need-thresholds-requires
+thresholds-requires c κs = search needs
+
+begin-requires : tie.Need-begin-requires
+begin-requires c κs = search needs
+
+enum-known-losses : tie.Need-enum-known-losses
+enum-known-losses c = search needs
+
+enum-told : tie.Need-enum-told
+enum-told c = search needs
+
+returns : tie.Need-returns
+returns c =
+    let reached = c .before .before in
+    let args = reached .before .before .before .before .before .args in
+    none-begins (args .m) (agesOf (args .m .segments) (args .m .ages) (now (args .fields))) (now (args .report)) (now (args .scratch))
+    (sym (c .enum-told .given .1) ∙ reached .begin .ensures)
+
+run-ages-requires : tie.Need-run-ages-requires
+run-ages-requires c κs =
+    let told = c .before .before in
+    let made = told .before .before .before .before .before in
+    let start = made .before .before .before in
+    (start .pre .0, (made .thresholds .ensures, begun-fits (start .args .m) _ (start .pre .0 .0) (begun told), start .pre .1 .1))
+
+enum-known-age : tie.Need-enum-known-age
+enum-known-age c = search needs
+
+enum-known-stress : tie.Need-enum-known-stress
+enum-known-stress c = search needs
+
+mul-copy : tie.Need-mul-copy
+mul-copy c = search needs
+
+copy-requires : tie.Need-copy-requires
+copy-requires c κs = search needs
+
+cast-double-of-ticks : tie.Need-cast-double-of-ticks
+cast-double-of-ticks c =
+    let ends = c .before .before .before .before .before .before in
+    let ran = ends .before .before .before .before in
+    record { fits = last-fits _ _ _ _ _ _ (ends .stress .given .1) (ran .run-ages .ensures) }
+
+double-of-ticks-requires : tie.Need-double-of-ticks-requires
+double-of-ticks-requires c κs = search needs
+
+same-length : tie.Need-same-length
+same-length c = search needs
+
+returns-2 : tie.Need-returns-2
+returns-2 c =
+    let ran = c .before .before .before .before .before in
+    let told = ran .before .before .before in
+    let args = told .before .before .before .before .before .before .before .before .args in
+    none-left (args .m) (agesOf (args .m .segments) (args .m .ages) (now (args .fields))) (now (args .report)) (now (args .scratch))
+    _ (begun told) _ _ (rw (c .before .age .given .1) at (ran .run-ages .ensures))
+
+same-length-2 : tie.Need-same-length-2
+same-length-2 c = search needs
+
+same-length-3 : tie.Need-same-length-3
+same-length-3 c = search needs
+
+returns-3 : tie.Need-returns-3
+returns-3 c =
+    let copied = c .before .before .before in
+    let ends = copied .before .before .before .before in
+    let ran = ends .before .before .before .before in
+    let told = ran .before .before .before in
+    let args = told .before .before .before .before .before .before .before .before .args in
+    all-passed (args .m) (agesOf (args .m .segments) (args .m .ages) (now (args .fields))) (now (args .report)) (now (args .scratch))
+    _ (begun told) _ _ _ _ (rw (ends .stress .given .1) at (ran .run-ages .ensures)) (c .double-of-ticks .ensures)
+    (copied .copy .ensures)
+
+pub run-member-spec : {M : Type 1} → statement M
+run-member-spec =
+    tie.close
+    (tie.spec
+    thresholds-requires
+    begin-requires
+    enum-known-losses
+    enum-told
+    returns
+    run-ages-requires
+    enum-known-age
+    enum-known-stress
+    mul-copy
+    copy-requires
+    cast-double-of-ticks
+    double-of-ticks-requires
+    same-length
+    returns-2
+    same-length-2
+    same-length-3
+    returns-3)

@@ -1,0 +1,6 @@
+pub mod Stresses
+pub mod Bounds
+pub mod BeforeAges
+pub mod Ages
+pub mod Intervals
+pub mod Run

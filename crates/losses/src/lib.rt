@@ -1,0 +1,124 @@
+// The run of a card over lent buffers.
+ghost use mathlib.Core.Path.{_≡_};
+ghost use mathlib.Core.List.{_++_};
+ghost use Prim.Native.Nat.{_*_, _≤_};
+ghost use lib.ListN.{length, take, drop};
+ghost use Rattle.member.specs.Quantities.{agesOf};
+ghost use Rattle.member.specs.Readable.{Readable};
+ghost use Rattle.losses.specs.Bounds.{Bounded, AgesBounded};
+ghost use Rattle.losses.specs.Run.{memberResult, resultOfReading, cardResult, Ran};
+
+pub mod ages;
+pub mod before;
+
+use ages::LastStress;
+use fields::refusal::Reading;
+use fields::refusal::Refusal;
+use member::Checked;
+use member::Member;
+
+// The most fields that a card or a list has.
+pub const MOST_FIELDS: usize = 344;
+
+// What a loss leaves of a stress, in ticks.
+pub enum Stress {
+    Left(u64),
+    Gone,
+}
+
+// The five losses before the ages, and the stress after them, in ticks.
+pub struct BeforeAges {
+    pub friction: u64,
+    pub slip: u64,
+    pub deflector: u64,
+    pub early_relaxation: u64,
+    pub shortening: u64,
+    pub stress: u64,
+}
+
+pub enum Begun {
+    Begins(BeforeAges),
+    Fails,
+}
+
+// What an accepted run replies: those, and the last stress in psi.
+pub struct Reply {
+    pub before: BeforeAges,
+    pub last: f64,
+}
+
+pub enum Answer {
+    Accepted(Reply),
+    Refused(Refusal),
+}
+
+// The first numbers of a buffer, at the front of another.
+fn copy(from: &[u64], count: usize, to: &mut [u64])
+    requires { ⌜ (count ≤ length (now from)) × (count ≤ length (now to)) ⌝ }
+    ensures { λ _. ⌜ now (to .exit) ≡ take count (now (from .entry)) ++ drop count (now (to .entry)) ⌝ }
+{
+    let mut at = 0usize;
+    while at < count {
+        to[at] = from[at];
+        at += 1;
+    }
+}
+
+// The run of an accepted member. Rows are made in the scratch, and copied to the report once all ages are passed.
+pub fn run_member(
+    m: Member,
+    fields: &[u64; MOST_FIELDS],
+    report: &mut [u64],
+    scratch: &mut [u64],
+) -> Answer
+    requires { ⌜ (Bounded m) × (AgesBounded (m .«own_weight_moment») (agesOf (m .segments) (m .ages) (now fields))) ⌝ }
+    requires { ⌜ (4 * m .ages ≤ length (now report)) × (4 * m .ages ≤ length (now scratch)) ⌝ }
+    ensures { λ r. ⌜ Ran (memberResult m (agesOf (m .segments) (m .ages) (now (fields .entry))))
+        r (now (report .exit)) (now (report .entry)) (now (scratch .exit)) (now (scratch .entry)) ⌝ }
+{
+    let thresholds = logarithm::thresholds();
+    let Begun::Begins(losses) = before::begin(m, &thresholds) else {
+        return Answer::Refused(Refusal::Stress(0));
+    };
+    match ages::run_ages(m, &thresholds, fields, losses.stress, scratch) {
+        LastStress::GoneAt(age) => Answer::Refused(Refusal::Stress(age)),
+        LastStress::Of(stress) => {
+            copy(scratch, ages::PER_ROW * (m.ages as usize), report);
+            Answer::Accepted(Reply {
+                before: losses,
+                last: ticks::double_of_ticks(stress as u32),
+            })
+        }
+    }
+}
+
+// The run of fields that a reader has filled.
+pub fn run_fields(
+    fields: &[u64; MOST_FIELDS],
+    segments: u64,
+    ages: u64,
+    report: &mut [u64],
+    scratch: &mut [u64],
+) -> Answer
+    requires { ⌜ Readable segments ages (now fields) ⌝ }
+    ensures { λ r. ⌜ Ran (resultOfReading (Reading.Fields segments ages) (now (fields .entry)) (length (now (report .entry)))
+        (length (now (scratch .entry))))
+        r (now (report .exit)) (now (report .entry)) (now (scratch .exit)) (now (scratch .entry)) ⌝ }
+{
+    match member::check_member(fields, segments, ages, report.len(), scratch.len()) {
+        Checked::Refused(refusal) => Answer::Refused(refusal),
+        Checked::Accepted(m) => run_member(m, fields, report, scratch),
+    }
+}
+
+// The run of a card: for every card and buffers of every length, the answer that document 01 gives, and the buffers as it leaves them.
+pub fn run_card(card: &[u8], report: &mut [u64], scratch: &mut [u64]) -> Answer
+    ensures { λ r. ⌜ Ran (cardResult (now (card .entry)) (length (now (report .entry))) (length (now (scratch .entry))))
+        r (now (report .exit)) (now (report .entry)) (now (scratch .exit)) (now (scratch .entry)) ⌝ }
+{
+    let mut fields = [0u64; MOST_FIELDS];
+    match fields::card::read_card(card, &mut fields) {
+        Reading::Not(refusal) => Answer::Refused(refusal),
+        Reading::Fields(segments, ages) => run_fields(&fields, segments, ages, report, scratch),
+    }
+}

@@ -1,0 +1,126 @@
+// The losses of each step, in ticks. Every division rounds down. What a function requires are the powers of two above document 01's
+// ranges, so that its products fit.
+ghost use mathlib.Core.Path.{_≡_};
+ghost use Prim.Native.Nat.{_-_, _^_, _≤_, _<_};
+ghost use Rattle.steps.specs.Steps.{frictionLoss, slipLoss, deflectorTicks, yield, relaxationDivisor, relaxationFactor};
+ghost use Rattle.steps.specs.Steps.{relaxationLoss, momentStress, concreteStress, shorteningLoss, creepLoss, shrinkageLoss};
+use member::Steel;
+
+// What 1.00 reads of a share and of friction.
+const T: u64 = 16_777_216;
+
+const TICKS_PER_UNIT: u64 = 1024;
+
+// 2^32: what κ is in parts of.
+const KAPPA_UNIT: u64 = 4_294_967_296;
+
+// 0.55 T and 0.05 T, rounded.
+const FREE_OF_RELAXATION: u64 = 9_227_468;
+
+const LEAST_FACTOR: u64 = 838_860;
+
+// later - earlier, and 0 where that is negative.
+pub fn difference(later: u64, earlier: u64) -> u64
+    ensures { λ r. ⌜ r ≡ later - earlier ⌝ }
+{
+    if earlier < later { later - earlier } else { 0 }
+}
+
+pub fn friction_loss(stress: u64, friction: u64) -> u64
+    requires { ⌜ (stress < 2 ^ 28) × (friction < 2 ^ 23) ⌝ }
+    ensures { λ r. ⌜ r ≡ frictionLoss stress friction ⌝ }
+{
+    stress * friction / T
+}
+
+pub fn slip_loss(es: u64, slip: u64, length: u64) -> u64
+    requires { ⌜ (es < 2 ^ 25) × (slip < 2 ^ 12) ⌝ }
+    requires { ⌜ (1 ≤ length) × (length < 2 ^ 22) ⌝ }
+    ensures { λ r. ⌜ r ≡ slipLoss es slip length ⌝ }
+{
+    es * slip * TICKS_PER_UNIT / (12 * length)
+}
+
+pub fn deflector_ticks(deflector_loss: u64) -> u64
+    requires { ⌜ «deflector_loss» < 2 ^ 15 ⌝ }
+    ensures { λ r. ⌜ r ≡ deflectorTicks «deflector_loss» ⌝ }
+{
+    deflector_loss * TICKS_PER_UNIT
+}
+
+fn yield_of(steel: Steel, ultimate_strength: u64) -> u64
+    requires { ⌜ «ultimate_strength» < 2 ^ 19 ⌝ }
+    ensures { λ r. ⌜ r ≡ yield steel «ultimate_strength» ⌝ }
+{
+    match steel {
+        Steel::StressRelieved => 85 * ultimate_strength * TICKS_PER_UNIT / 100,
+        Steel::LowRelaxation => 90 * ultimate_strength * TICKS_PER_UNIT / 100,
+    }
+}
+
+fn relaxation_divisor(steel: Steel) -> u64
+    ensures { λ r. ⌜ r ≡ relaxationDivisor steel ⌝ }
+{
+    match steel {
+        Steel::StressRelieved => 2_560,
+        Steel::LowRelaxation => 11_520,
+    }
+}
+
+fn relaxation_factor(stress: u64, y: u64) -> u64
+    requires { ⌜ (stress < 2 ^ 28) × (1 ≤ y) ⌝ }
+    ensures { λ r. ⌜ r ≡ relaxationFactor stress y ⌝ }
+{
+    let above = difference(stress * T / y, FREE_OF_RELAXATION);
+    if LEAST_FACTOR < above {
+        above
+    } else {
+        LEAST_FACTOR
+    }
+}
+
+pub fn relaxation_loss(steel: Steel, ultimate_strength: u64, stress: u64, logarithms: u64) -> u64
+    requires { ⌜ (100000 ≤ «ultimate_strength») × («ultimate_strength» < 2 ^ 19) ⌝ }
+    requires { ⌜ (stress < 2 ^ 28) × (logarithms ≤ 1536) ⌝ }
+    ensures { λ r. ⌜ r ≡ relaxationLoss steel «ultimate_strength» stress logarithms ⌝ }
+{
+    let y = yield_of(steel, ultimate_strength);
+    let divisor = relaxation_divisor(steel);
+    stress * logarithms / divisor * relaxation_factor(stress, y) / T
+}
+
+pub fn moment_stress(moments: u64, eccentricity: u64, inertia: u64) -> u64
+    requires { ⌜ (moments ≤ 2 ^ 40) × (eccentricity < 2 ^ 17) × (1 ≤ inertia) ⌝ }
+    ensures { λ r. ⌜ r ≡ momentStress moments eccentricity inertia ⌝ }
+{
+    moments * eccentricity / inertia
+}
+
+pub fn concrete_stress(stress: u64, kappa: u64, g: u64) -> u64
+    requires { ⌜ (stress < 2 ^ 28) × (kappa ≤ 2 ^ 30) ⌝ }
+    ensures { λ r. ⌜ r ≡ concreteStress stress kappa g ⌝ }
+{
+    difference(stress * kappa / KAPPA_UNIT, g)
+}
+
+pub fn shortening_loss(es: u64, eci: u64, kappa: u64, c: u64) -> u64
+    requires { ⌜ (es < 2 ^ 25) × (1 ≤ eci) × (eci < 2 ^ 23) ⌝ }
+    requires { ⌜ (kappa ≤ 2 ^ 30) × (c < 2 ^ 28) ⌝ }
+    ensures { λ r. ⌜ r ≡ shorteningLoss es eci kappa c ⌝ }
+{
+    es * c / (eci + es * kappa / KAPPA_UNIT)
+}
+
+pub fn creep_loss(whole_creep: u64, share: u64, c: u64) -> u64
+    requires { ⌜ («whole_creep» < 2 ^ 31) × (share ≤ 2 ^ 24) × (c < 2 ^ 28) ⌝ }
+    ensures { λ r. ⌜ r ≡ creepLoss «whole_creep» share c ⌝ }
+{
+    whole_creep * share / T * c / T
+}
+
+pub fn shrinkage_loss(whole_shrinkage: u64, share: u64) -> u64
+    requires { ⌜ («whole_shrinkage» < 2 ^ 26) × (share ≤ 2 ^ 24) ⌝ }
+    ensures { λ r. ⌜ r ≡ shrinkageLoss «whole_shrinkage» share ⌝ }
+{
+    whole_shrinkage * share / T
+}
