@@ -1,0 +1,6 @@
+pub mod Polynomial
+pub mod Laws
+pub mod Certificate
+pub mod Distances
+pub mod Floors
+pub mod Slopes

@@ -1,0 +1,69 @@
+-- Document 01: "A fraction is a whole number over a positive one, and two are compared by cross products."
+-- The whole number may be negative. It is kept as a difference of two naturals, up − down: the kit's integers lack distributivity
+-- and an order that agrees with it, and so every law of fractions is one of + and × on naturals. Assumes nothing.
+use mathlib.Core.Path.{_≡_}
+use mathlib.Core.Bool.{cond}
+use Prim.Native.Nat.{ℕ, _+_, _*_, _≤_, _<_}
+use native.Mathlib.Nat.{mul-pos}
+use lib.Dec.{leb, lit<}
+
+infix 40 _≈_ _≼_
+infixl 75 _⊕_ _⊖_
+infixl 80 _⊗_
+-- (up − down) / den
+pub record Fraction : Type 0 where
+  pub up : ℕ
+  pub down : ℕ
+  pub den : ℕ
+  pub positive : 0 < den
+
+-- a / b
+unfoldable pub over : (a b : ℕ) → 0 < b → Fraction
+over a b h = record { up = a; down = 0; den = b; positive = h }
+
+-- n / 1
+unfoldable pub whole : ℕ → Fraction
+whole n = record { up = n; down = 0; den = 1; positive = lit< tt }
+
+unfoldable pub _⊕_ : Fraction → Fraction → Fraction
+x ⊕ y = record {
+  up = x .up * y .den + y .up * x .den;
+  down = x .down * y .den + y .down * x .den;
+  den = x .den * y .den;
+  positive = mul-pos (x .positive) (y .positive);
+}
+
+unfoldable pub opposite : Fraction → Fraction
+opposite x = record { up = x .down; down = x .up; den = x .den; positive = x .positive }
+
+unfoldable pub _⊖_ : Fraction → Fraction → Fraction
+x ⊖ y = x ⊕ opposite y
+
+unfoldable pub _⊗_ : Fraction → Fraction → Fraction
+x ⊗ y = record {
+  up = x .up * y .up + x .down * y .down;
+  down = x .up * y .down + x .down * y .up;
+  den = x .den * y .den;
+  positive = mul-pos (x .positive) (y .positive);
+}
+
+-- x ≤ y by cross products is (up − down of x) · (den of y) ≤ (up − down of y) · (den of x). What one side takes off the other
+-- adds instead, and each side is a natural: x's is `cross x y`, y's is `cross y x`.
+abbrev pub cross : Fraction → Fraction → ℕ
+cross x y = x .up * y .den + y .down * x .den
+
+-- x = y
+pub record _≈_ (x y : Fraction) : Type 0 where
+  pub equal : cross x y ≡ cross y x
+
+-- x ≤ y
+pub record _≼_ (x y : Fraction) : Type 0 where
+  pub at-most : cross x y ≤ cross y x
+
+unfoldable pub larger : Fraction → Fraction → Fraction
+larger x y = cond (leb (cross x y) (cross y x)) y x
+
+-- x and y differ by at most e
+pub record Within (e x y : Fraction) : Type 0 where
+  pub above : x ≼ y ⊕ e
+  pub below : y ≼ x ⊕ e

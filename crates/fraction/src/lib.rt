@@ -1,0 +1,1 @@
+// Fractions are only spoken of, never computed: specs/Fraction.antt says what one is, proofs/ has the laws.

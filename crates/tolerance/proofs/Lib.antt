@@ -1,0 +1,17 @@
+pub mod Quotients
+pub mod Rounded
+pub mod Concrete
+pub mod Path
+pub mod Shares
+pub mod Logarithms
+pub mod Relaxation
+pub mod RelaxationSlope
+pub mod Shortening
+pub mod Creep
+pub mod Bounds
+pub mod Allowance
+pub mod Chains
+pub mod Run
+pub mod Ages
+pub mod Beginning
+pub mod Demand3

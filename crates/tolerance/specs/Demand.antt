@@ -1,0 +1,55 @@
+-- Demand 3 of document 01 as one statement about an accepted run. Assumes nothing.
+use Prim.Native.Nat.{ℕ, zero, suc, _+_, _*_, _≤_, _<_}
+use mathlib.Core.Path.{_≡_}
+use mathlib.Core.List.{List, [], _∷_}
+use lib.ListN.{length, getD, drop}
+use Rattle.fraction.specs.Fraction.{Fraction, whole, Within}
+use Rattle.ticks.specs.Doubles.{ticksPerUnit}
+use Rattle.member.specs.Quantities.{segmentsOf}
+use Rattle.member.specs.Rows.{perRow}
+use Rattle.losses.specs.declared.BeforeAges.{BeforeAges}
+use Rattle.tolerance.specs.Logarithms.{Admissible, tableLogarithm}
+use Rattle.tolerance.specs.Stresses.{jacked, afterDeflector, exactStresses, coreAfterDeflector, coreStresses}
+
+-- "1 psi a step", and "40 with other logarithms", in ticks
+abbrev pub narrowStep : ℕ
+narrowStep = 1 * ticksPerUnit
+
+abbrev pub wideStep : ℕ
+wideStep = 40 * ticksPerUnit
+
+-- "Steps count s + n + 3"
+abbrev pub stepsOf : ℕ → ℕ → ℕ
+stepsOf segments ages = segments + ages + 3
+
+-- after every step k, counted from 1, the two stresses differ by at most k times `step` ticks; "what holds after slip holds after" the
+-- deflector loss, which is no step
+pub record Close (step : ℕ) (log : ℕ → Fraction) (segments ages : ℕ) (fields : List ℕ) (before : BeforeAges) (rows : List ℕ) : Type 0 where
+  pub steps : (k : ℕ) → k < stepsOf segments ages
+      → Within (whole (suc k * step)) (whole (getD (coreStresses segments ages fields before rows) k 0))
+      (getD (exactStresses log segments ages fields) k (whole 0))
+  pub deflector :
+      Within (whole (suc segments * step)) (whole (coreAfterDeflector fields before)) (afterDeflector log fields (segmentsOf segments fields))
+
+-- no stress is larger than the one before it
+unfoldable pub Falls : ℕ → List ℕ → Type 0
+Falls before [] = Unit {0}
+Falls before (stress ∷ stresses) = (stress ≤ before) × Falls stress stresses
+
+-- the five losses of the reply, and three for each age
+abbrev pub lossesBefore : BeforeAges → ℕ
+lossesBefore before =
+    before .friction + before .slip + before .deflector + before .«early_relaxation» + before .shortening
+
+unfoldable pub lossesOfRows : ℕ → List ℕ → ℕ
+lossesOfRows zero rows = 0
+lossesOfRows (suc ages) rows = getD rows 0 0 + getD rows 1 0 + getD rows 2 0 + lossesOfRows ages (drop perRow rows)
+
+-- "Demand 3 is one claim over the whole run"
+pub record Demand3 (segments ages : ℕ) (fields : List ℕ) (before : BeforeAges) (rows : List ℕ) (last : ℕ) : Type 0 where
+  pub narrow : Close narrowStep tableLogarithm segments ages fields before rows
+  pub wide : (log : ℕ → Fraction) → Admissible log → Close wideStep log segments ages fields before rows
+  pub falls : Falls (jacked fields) (coreStresses segments ages fields before rows)
+  pub closes : jacked fields ≡ last + lossesBefore before + lossesOfRows ages rows
+  pub count : length (coreStresses segments ages fields before rows) ≡ stepsOf segments ages
+  pub linked : getD (coreStresses segments ages fields before rows) (segments + ages + 2) 0 ≡ last
