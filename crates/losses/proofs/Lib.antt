@@ -1,10 +1,8 @@
 pub mod Accepting
+pub mod Answering
 pub mod Beginning
 pub mod Leaving
-mod Answering
 mod Clocks
 mod Lists
-mod Padding
 mod Passing
-mod Readers
 mod Running

@@ -13,7 +13,6 @@ use Rattle.fields.specs.declared.refusal.Reading.{Reading}
 use Rattle.fields.specs.declared.refusal.Reading.the-variants.{Fields, Not}
 use Rattle.fields.specs.Refusals.{number}
 use Rattle.fields.specs.Amounts.{over}
-use Rattle.fields.specs.Card.{cardOutcome}
 use Rattle.member.specs.declared.Member.{Member}
 use Rattle.member.specs.declared.Checked.{Checked}
 use Rattle.member.specs.declared.Checked.the-variants.{Accepted, Refused}
@@ -62,12 +61,6 @@ abbrev pub resultOfReading : Reading → List ℕ → ℕ → ℕ → Result
 resultOfReading (Not refusal) fields report scratch = refused refusal
 resultOfReading (Fields segments ages) fields report scratch =
     resultOfChecked (agesOf segments ages fields) (checkedOf segments ages fields report scratch)
-
--- what a card gives, with room for so many numbers in report and scratch
-unfoldable pub cardResult : List ℕ → ℕ → ℕ → Result
-unfolding memberResult
-cardResult card report scratch =
-    resultOfReading (cardOutcome card .reading) (cardOutcome card .numbers) report scratch
 
 -- ---- what a host is promised of a result
 

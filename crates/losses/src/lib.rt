@@ -1,4 +1,4 @@
-// The run of a card over lent buffers.
+// The run of an accepted member over lent buffers.
 ghost use mathlib.Core.Path.{_≡_};
 ghost use mathlib.Core.List.{_++_};
 ghost use Prim.Native.Nat.{_*_, _≤_};
@@ -6,7 +6,7 @@ ghost use lib.ListN.{length, take, drop};
 ghost use Rattle.member.specs.Quantities.{agesOf};
 ghost use Rattle.member.specs.Readable.{Readable};
 ghost use Rattle.losses.specs.Bounds.{Bounded, AgesBounded};
-ghost use Rattle.losses.specs.Run.{memberResult, resultOfReading, cardResult, Ran};
+ghost use Rattle.losses.specs.Run.{memberResult, resultOfReading, Ran};
 
 pub mod ages;
 pub mod before;
@@ -108,17 +108,5 @@ pub fn run_fields(
     match member::check_member(fields, segments, ages, report.len(), scratch.len()) {
         Checked::Refused(refusal) => Answer::Refused(refusal),
         Checked::Accepted(m) => run_member(m, fields, report, scratch),
-    }
-}
-
-// The run of a card: for every card and buffers of every length, the answer that document 01 gives, and the buffers as it leaves them.
-pub fn run_card(card: &[u8], report: &mut [u64], scratch: &mut [u64]) -> Answer
-    ensures { λ r. ⌜ Ran (cardResult (now (card .entry)) (length (now (report .entry))) (length (now (scratch .entry))))
-        r (now (report .exit)) (now (report .entry)) (now (scratch .exit)) (now (scratch .entry)) ⌝ }
-{
-    let mut fields = [0u64; MOST_FIELDS];
-    match fields::card::read_card(card, &mut fields) {
-        Reading::Not(refusal) => Answer::Refused(refusal),
-        Reading::Fields(segments, ages) => run_fields(&fields, segments, ages, report, scratch),
     }
 }

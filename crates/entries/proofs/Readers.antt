@@ -12,10 +12,10 @@ use Rattle.fields.specs.Amounts.{over}
 use Rattle.member.specs.Quantities.{agesOf}
 use Rattle.member.specs.Readable.{Small, Readable}
 use Rattle.member.specs.Member.{checkedOf}
 use Rattle.losses.specs.declared.Answer.the-variants.{Refused}
 use Rattle.losses.specs.Run.{resultOfChecked, resultOfReading, Ran}
-use Rattle.losses.proofs.Padding.{Same, same-ages, same-checked, over-zeros}
+use Rattle.entries.proofs.Padding.{Same, same-ages, same-checked, over-zeros}
 use Rattle.losses.proofs.Answering.{refused-early}
 
 module _ (reading : Reading) (numbers : List ℕ) where
   -- what cannot be read
