@@ -17,6 +17,9 @@ pub enum Table {
 // Where a row stands, in ticks of inch or in hours, and its value in hundredths.
 pub struct Row(pub u32, pub u8);
 
+// What 1.00 reads of a share, and friction of 1.
+pub const T: u64 = 16_777_216;
+
 const INCH: u32 = 1024;
 
 const DAY: u32 = 24;
@@ -140,8 +143,8 @@ fn unit_of(table: Table) -> u64
         Table::Scf => 102_400,
         Table::Ssf => 102_400,
         Table::Mcf => 72_000,
-        Table::CreepShare => 16_777_216,
-        Table::ShrinkageShare => 16_777_216,
+        Table::CreepShare => T,
+        Table::ShrinkageShare => T,
     }
 }
 

@@ -9,13 +9,17 @@ ghost use Rattle.losses.specs.Bounds.{Bounded, AgesBounded};
 ghost use Rattle.losses.specs.Ages.{agedFrom};
 ghost use Rattle.losses.specs.Intervals.{doneAt, lossesBy, passedBy, rowBy, IntervalBounded, DoneBounded, RanAges};
 ghost use Rattle.losses.specs.Run.{startOf};
-use crate::MOST_FIELDS;
 use crate::Stress;
 use crate::before;
 use coefficient::clocks::MemberHours;
 use coefficient::clocks::SERVICE_LIFE;
+use fields::layout::HEAD_FIELDS;
+use fields::layout::MOST_FIELDS;
+use fields::layout::PER_AGE;
+use fields::layout::PER_SEGMENT;
 use logarithm::ENTRIES;
 use member::Member;
+use member::buffers::PER_ROW;
 
 // What is done at an hour: the shares of creep and shrinkage, and relaxation's logarithm.
 pub struct Done {
@@ -48,15 +52,6 @@ pub enum LastStress {
     Of(u64),
     GoneAt(u64),
 }
-
-// Numbers of a row, fields of a segment and of an age, and fields before them.
-pub const PER_ROW: usize = 4;
-
-const PER_SEGMENT: usize = 3;
-
-const PER_AGE: usize = 2;
-
-const HEAD_FIELDS: usize = 24;
 
 fn done_at(hours: MemberHours, thresholds: &[u32; ENTRIES], hour: u32) -> Done
     requires { ⌜ IsTable (now thresholds) ⌝ }

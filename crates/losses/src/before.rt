@@ -11,8 +11,7 @@ use crate::Stress;
 use coefficient::codes::Kind;
 use logarithm::ENTRIES;
 use member::Member;
-
-const TICKS_PER_UNIT: u64 = 1024;
+use ticks::TICKS_PER_UNIT;
 
 // 1,000 psi, in ticks.
 const LEAST_STRESS: u64 = 1_024_000;

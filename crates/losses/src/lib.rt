@@ -12,13 +12,12 @@ pub mod ages;
 pub mod before;
 
 use ages::LastStress;
+use fields::layout::MOST_FIELDS;
 use fields::refusal::Reading;
 use fields::refusal::Refusal;
 use member::Checked;
 use member::Member;
-
-// The most fields that a card or a list has.
-pub const MOST_FIELDS: usize = 344;
+use member::buffers::PER_ROW;
 
 // What a loss leaves of a stress, in ticks.
 pub enum Stress {
@@ -83,7 +82,7 @@ pub fn run_member(
     match ages::run_ages(m, &thresholds, fields, losses.stress, scratch) {
         LastStress::GoneAt(age) => Answer::Refused(Refusal::Stress(age)),
         LastStress::Of(stress) => {
-            copy(scratch, ages::PER_ROW * (m.ages as usize), report);
+            copy(scratch, PER_ROW * (m.ages as usize), report);
             Answer::Accepted(Reply {
                 before: losses,
                 last: ticks::double_of_ticks(stress as u32),

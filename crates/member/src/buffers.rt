@@ -6,7 +6,7 @@ ghost use Rattle.member.specs.Rows.{firstFailing, buffers};
 use crate::row;
 
 // Creep, shrinkage, relaxation and stress of an age.
-const PER_ROW: usize = 4;
+pub const PER_ROW: usize = 4;
 
 pub fn first_failing(ages: usize, report: usize, scratch: usize) -> u64
     requires { ⌜ ages ≤ mostAges ⌝ }

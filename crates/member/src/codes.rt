@@ -12,8 +12,11 @@ use crate::row;
 use coefficient::codes::Concrete;
 use coefficient::codes::Cure;
 use coefficient::codes::Kind;
+use fields::layout::HEAD_FIELDS;
+use fields::layout::MOST_FIELDS;
+use fields::layout::PER_SEGMENT;
 
-fn head_codes(fields: &[u64; places::MOST_FIELDS]) -> u64
+fn head_codes(fields: &[u64; MOST_FIELDS]) -> u64
     ensures { λ r. ⌜ r ≡ firstFailing (headCodes (now (fields .entry))) ⌝ }
 {
     let failing = row::first(0, 1, row::in_range(1, 2, fields[places::KIND]));
@@ -22,13 +25,13 @@ fn head_codes(fields: &[u64; places::MOST_FIELDS]) -> u64
     row::first(failing, 9, row::in_range(1, 2, fields[places::CONCRETE]))
 }
 
-fn segment_codes(fields: &[u64; places::MOST_FIELDS], segments: usize) -> u64
+fn segment_codes(fields: &[u64; MOST_FIELDS], segments: usize) -> u64
     requires { ⌜ segments ≤ mostSegments ⌝ }
     ensures { λ r. ⌜ r ≡ firstFailing (segmentCodes firstSegmentField (segmentsOf segments (now (fields .entry)))) ⌝ }
 {
     let mut segment = 0usize;
     while segment < segments {
-        let at = places::HEAD_FIELDS + places::PER_SEGMENT * segment;
+        let at = HEAD_FIELDS + PER_SEGMENT * segment;
         let failing = row::first(0, (at + 1) as u64, row::in_range(1, 3, fields[at]));
         if failing != 0 {
             return failing;
@@ -38,7 +41,7 @@ fn segment_codes(fields: &[u64; places::MOST_FIELDS], segments: usize) -> u64
     0
 }
 
-pub fn first_failing(fields: &[u64; places::MOST_FIELDS], segments: usize) -> u64
+pub fn first_failing(fields: &[u64; MOST_FIELDS], segments: usize) -> u64
     requires { ⌜ segments ≤ mostSegments ⌝ }
     ensures { λ r. ⌜ r ≡ firstFailing (codes segments (now (fields .entry))) ⌝ }
 {

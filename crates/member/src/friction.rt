@@ -9,12 +9,11 @@ ghost use Rattle.member.specs.Facts.{SegmentFits, PathFits, mostPart};
 ghost use Rattle.member.specs.Member.{frictionOf};
 use crate::places;
 use crate::row;
-
-// T = 2^24
-const T: u64 = 16_777_216;
-
-// Ticks to a foot or a radian.
-const TICKS: u64 = 1_024;
+use coefficient::tables::T;
+use fields::layout::HEAD_FIELDS;
+use fields::layout::MOST_FIELDS;
+use fields::layout::PER_SEGMENT;
+use ticks::TICKS_PER_UNIT;
 
 const MILLION: u64 = 1_000_000;
 
@@ -24,7 +23,7 @@ fn wobble_part(wobble: u64, kind: u64, length: u64, rise: u64) -> u64
     requires { ⌜ (wobble ≤ 2000) × SegmentFits (segment kind length rise) ⌝ }
     ensures { λ r. ⌜ (r ≡ wobblePart wobble (segment kind length rise)) × (r ≤ mostPart) ⌝ }
 {
-    wobble * length * T / (TICKS * MILLION)
+    wobble * length * T / (TICKS_PER_UNIT * MILLION)
 }
 
 fn curvature_part(curvature: u64, kind: u64, length: u64, rise: u64) -> u64
@@ -32,7 +31,7 @@ fn curvature_part(curvature: u64, kind: u64, length: u64, rise: u64) -> u64
     ensures { λ r. ⌜ (r ≡ curvaturePart curvature (segment kind length rise)) × (r ≤ mostPart) ⌝ }
 {
     if kind == places::BEND {
-        return curvature * rise * T / (TICKS * MILLION);
+        return curvature * rise * T / (TICKS_PER_UNIT * MILLION);
     }
     if kind == places::PARABOLA {
         return curvature * (2 * rise) * T / (length * MILLION);
@@ -40,7 +39,7 @@ fn curvature_part(curvature: u64, kind: u64, length: u64, rise: u64) -> u64
     0
 }
 
-pub fn path_friction(fields: &[u64; places::MOST_FIELDS], segments: usize) -> u64
+pub fn path_friction(fields: &[u64; MOST_FIELDS], segments: usize) -> u64
     requires { ⌜ PathFits segments (now fields) ⌝ }
     ensures { λ r. ⌜ r ≡ frictionOf segments (now (fields .entry)) ⌝ }
 {
@@ -49,7 +48,7 @@ pub fn path_friction(fields: &[u64; places::MOST_FIELDS], segments: usize) -> u6
     let mut friction = 0u64;
     let mut segment = 0usize;
     while segment < segments {
-        let at = places::HEAD_FIELDS + places::PER_SEGMENT * segment;
+        let at = HEAD_FIELDS + PER_SEGMENT * segment;
         let kind = fields[at];
         let length = fields[at + 1];
         let rise = fields[at + 2];

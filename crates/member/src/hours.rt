@@ -7,8 +7,12 @@ ghost use Rattle.member.specs.Readable.{Readable};
 use crate::places;
 use crate::row;
 use coefficient::clocks;
+use fields::layout::HEAD_FIELDS;
+use fields::layout::MOST_FIELDS;
+use fields::layout::PER_AGE;
+use fields::layout::PER_SEGMENT;
 
-fn curing_fits(fields: &[u64; places::MOST_FIELDS]) -> bool
+fn curing_fits(fields: &[u64; MOST_FIELDS]) -> bool
     ensures { λ r. ⌜ r ≡ curingFits (now (fields .entry)) ⌝ }
 {
     let curing = fields[places::END_OF_CURING];
@@ -20,7 +24,7 @@ fn curing_fits(fields: &[u64; places::MOST_FIELDS]) -> bool
     row::both(row::both(curing <= transfer, kind), cure)
 }
 
-fn transfer_fits(fields: &[u64; places::MOST_FIELDS]) -> bool
+fn transfer_fits(fields: &[u64; MOST_FIELDS]) -> bool
     ensures { λ r. ⌜ r ≡ transferFits (now (fields .entry)) ⌝ }
 {
     let least = if fields[places::CURE] == places::MOIST {
@@ -31,16 +35,16 @@ fn transfer_fits(fields: &[u64; places::MOST_FIELDS]) -> bool
     row::in_range(least, 960, fields[places::TRANSFER])
 }
 
-fn age_hours(fields: &[u64; places::MOST_FIELDS], segments: usize, ages: usize) -> u64
+fn age_hours(fields: &[u64; MOST_FIELDS], segments: usize, ages: usize) -> u64
     requires { ⌜ Readable segments ages (now fields) ⌝ }
     ensures { λ r. ⌜ r ≡ firstFailing (hoursOfAges (firstAgeField segments) (transfer (now (fields .entry)))
         (agesOf segments ages (now (fields .entry)))) ⌝ }
 {
-    let first_age = places::HEAD_FIELDS + places::PER_SEGMENT * segments;
+    let first_age = HEAD_FIELDS + PER_SEGMENT * segments;
     let mut earlier = fields[places::TRANSFER];
     let mut age = 0usize;
     while age < ages {
-        let at = first_age + places::PER_AGE * age;
+        let at = first_age + PER_AGE * age;
         let hour = fields[at];
         let rises = row::both(earlier < hour, hour <= clocks::SERVICE_LIFE as u64);
         let failing = row::first(0, (at + 1) as u64, rises);
@@ -53,7 +57,7 @@ fn age_hours(fields: &[u64; places::MOST_FIELDS], segments: usize, ages: usize) 
     0
 }
 
-pub fn first_failing(fields: &[u64; places::MOST_FIELDS], segments: usize, ages: usize) -> u64
+pub fn first_failing(fields: &[u64; MOST_FIELDS], segments: usize, ages: usize) -> u64
     requires { ⌜ Readable segments ages (now fields) ⌝ }
     ensures { λ r. ⌜ r ≡ firstFailing (hours segments ages (now (fields .entry))) ⌝ }
 {

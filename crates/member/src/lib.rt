@@ -16,6 +16,7 @@ pub mod row;
 pub mod section;
 
 use coefficient::clocks::MemberHours;
+use fields::layout::MOST_FIELDS;
 use fields::refusal::Refusal;
 
 pub enum Steel {
@@ -56,7 +57,7 @@ const MOST_KAPPA: u64 = 1_073_741_824;
 // 2^56
 const MOST_CREEP_OF_KAPPA: u64 = 72_057_594_037_927_936;
 
-fn creep_of(fields: &[u64; places::MOST_FIELDS]) -> u64
+fn creep_of(fields: &[u64; MOST_FIELDS]) -> u64
     requires { ⌜ HeadFits (now fields) ⌝ }
     ensures { λ r. ⌜ (r ≡ creepOf (now (fields .entry))) × (r ≤ mostCreep) ⌝ }
 {
@@ -73,7 +74,7 @@ fn creep_of(fields: &[u64; places::MOST_FIELDS]) -> u64
     )
 }
 
-fn shrinkage_of(fields: &[u64; places::MOST_FIELDS]) -> u64
+fn shrinkage_of(fields: &[u64; MOST_FIELDS]) -> u64
     requires { ⌜ HeadFits (now fields) ⌝ }
     ensures { λ r. ⌜ r ≡ shrinkageOf (now (fields .entry)) ⌝ }
 {
@@ -82,7 +83,7 @@ fn shrinkage_of(fields: &[u64; places::MOST_FIELDS]) -> u64
     section::whole_shrinkage(concrete, ec, fields[places::VOLUME_TO_SURFACE] as u32)
 }
 
-fn hours_of(fields: &[u64; places::MOST_FIELDS]) -> MemberHours
+fn hours_of(fields: &[u64; MOST_FIELDS]) -> MemberHours
     requires { ⌜ HeadFits (now fields) ⌝ }
     ensures { λ r. ⌜ r ≡ hoursOf (now (fields .entry)) ⌝ }
 {
@@ -94,7 +95,7 @@ fn hours_of(fields: &[u64; places::MOST_FIELDS]) -> MemberHours
 }
 
 fn member_of(
-    fields: &[u64; places::MOST_FIELDS],
+    fields: &[u64; MOST_FIELDS],
     segments: u64,
     ages: u64,
     friction: u64,
@@ -128,12 +129,7 @@ fn member_of(
 }
 
 // Rows "section" and "creep".
-fn check_section(
-    fields: &[u64; places::MOST_FIELDS],
-    segments: u64,
-    ages: u64,
-    friction: u64,
-) -> Checked
+fn check_section(fields: &[u64; MOST_FIELDS], segments: u64, ages: u64, friction: u64) -> Checked
     requires { ⌜ HeadFits (now fields) ⌝ }
     requires { ⌜ friction ≡ frictionOf segments (now fields) ⌝ }
     ensures { λ r. ⌜ r ≡ fromSection segments ages (now (fields .entry)) ⌝ }
@@ -158,7 +154,7 @@ fn check_section(
 
 // Rows "duct" and "buffers", and those below.
 fn check_path(
-    fields: &[u64; places::MOST_FIELDS],
+    fields: &[u64; MOST_FIELDS],
     segments: u64,
     ages: u64,
     report: usize,
@@ -185,7 +181,7 @@ fn check_path(
 // "Refusal by place of checking, top to bottom": the accepted member, or the first refusal from row "codes" to row "creep".
 // `report` and `scratch` are the lengths of the lent buffers.
 pub fn check_member(
-    fields: &[u64; places::MOST_FIELDS],
+    fields: &[u64; MOST_FIELDS],
     segments: u64,
     ages: u64,
     report: usize,

@@ -44,16 +44,6 @@ pub const WOBBLE: usize = 20;
 
 pub const CURVATURE: usize = 21;
 
-// The fields of lines 1 to 4; the segments' follow them, and then the ages'.
-pub const HEAD_FIELDS: usize = 24;
-
-pub const PER_SEGMENT: usize = 3;
-
-pub const PER_AGE: usize = 2;
-
-// 64 segments and 64 ages
-pub const MOST_FIELDS: usize = 344;
-
 pub const PRETENSIONED: u64 = 1;
 
 pub const STRESS_RELIEVED: u64 = 1;

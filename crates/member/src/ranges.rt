@@ -9,6 +9,10 @@ ghost use Rattle.member.specs.Readable.{Small, Readable};
 ghost use Rattle.member.specs.Parts.{segment};
 use crate::places;
 use crate::row;
+use fields::layout::HEAD_FIELDS;
+use fields::layout::MOST_FIELDS;
+use fields::layout::PER_AGE;
+use fields::layout::PER_SEGMENT;
 
 // 2^24
 const MOST_AREA: u64 = 16_777_216;
@@ -19,7 +23,7 @@ const MOST_INERTIA: u64 = 17_179_869_184;
 // 2^40
 const MOST_MOMENT: u64 = 1_099_511_627_776;
 
-fn line_1(fields: &[u64; places::MOST_FIELDS]) -> u64
+fn line_1(fields: &[u64; MOST_FIELDS]) -> u64
     requires { ⌜ Small (now fields) ⌝ }
     ensures { λ r. ⌜ r ≡ firstFailing (rangesOfLine1 (now (fields .entry))) ⌝ }
 {
@@ -38,7 +42,7 @@ fn line_1(fields: &[u64; places::MOST_FIELDS]) -> u64
     row::first(failing, 7, row::in_range(1_024, 2_097_152, length))
 }
 
-fn line_2(fields: &[u64; places::MOST_FIELDS]) -> u64
+fn line_2(fields: &[u64; MOST_FIELDS]) -> u64
     ensures { λ r. ⌜ r ≡ firstFailing (rangesOfLine2 (now (fields .entry))) ⌝ }
 {
     let es = fields[places::ES];
@@ -51,7 +55,7 @@ fn line_2(fields: &[u64; places::MOST_FIELDS]) -> u64
     row::first(failing, 13, row::in_range(1_024, 65_536, volume_to_surface))
 }
 
-fn line_3(fields: &[u64; places::MOST_FIELDS]) -> u64
+fn line_3(fields: &[u64; MOST_FIELDS]) -> u64
     ensures { λ r. ⌜ r ≡ firstFailing (rangesOfLine3 (now (fields .entry))) ⌝ }
 {
     let area = fields[places::AREA];
@@ -65,7 +69,7 @@ fn line_3(fields: &[u64; places::MOST_FIELDS]) -> u64
     row::first(failing, 18, own_weight <= MOST_MOMENT)
 }
 
-fn line_4(fields: &[u64; places::MOST_FIELDS]) -> u64
+fn line_4(fields: &[u64; MOST_FIELDS]) -> u64
     ensures { λ r. ⌜ r ≡ firstFailing (rangesOfLine4 (now (fields .entry))) ⌝ }
 {
     let failing = row::first(0, 21, fields[places::WOBBLE] <= 2_000);
@@ -96,13 +100,13 @@ fn rise_fits(kind: u64, length: u64, rise: u64) -> bool
     rise <= 4_096
 }
 
-fn segment_ranges(fields: &[u64; places::MOST_FIELDS], segments: usize) -> u64
+fn segment_ranges(fields: &[u64; MOST_FIELDS], segments: usize) -> u64
     requires { ⌜ segments ≤ mostSegments ⌝ }
     ensures { λ r. ⌜ r ≡ firstFailing (rangesOfSegments firstSegmentField (segmentsOf segments (now (fields .entry)))) ⌝ }
 {
     let mut segment = 0usize;
     while segment < segments {
-        let at = places::HEAD_FIELDS + places::PER_SEGMENT * segment;
+        let at = HEAD_FIELDS + PER_SEGMENT * segment;
         let kind = fields[at];
         let length = fields[at + 1];
         let rise = fields[at + 2];
@@ -116,16 +120,16 @@ fn segment_ranges(fields: &[u64; places::MOST_FIELDS], segments: usize) -> u64
     0
 }
 
-fn moment_ranges(fields: &[u64; places::MOST_FIELDS], segments: usize, ages: usize) -> u64
+fn moment_ranges(fields: &[u64; MOST_FIELDS], segments: usize, ages: usize) -> u64
     requires { ⌜ Readable segments ages (now fields) ⌝ }
     ensures { λ r. ⌜ r ≡ firstFailing (rangesOfMoments (firstAgeField segments) (ownWeightMoment (now (fields .entry)))
         (agesOf segments ages (now (fields .entry)))) ⌝ }
 {
-    let first_age = places::HEAD_FIELDS + places::PER_SEGMENT * segments;
+    let first_age = HEAD_FIELDS + PER_SEGMENT * segments;
     let mut moments = fields[places::OWN_WEIGHT_MOMENT];
     let mut age = 0usize;
     while age < ages {
-        let at = first_age + places::PER_AGE * age;
+        let at = first_age + PER_AGE * age;
         moments += fields[at + 1];
         let failing = row::first(0, (at + 2) as u64, moments <= MOST_MOMENT);
         if failing != 0 {
@@ -136,7 +140,7 @@ fn moment_ranges(fields: &[u64; places::MOST_FIELDS], segments: usize, ages: usi
     0
 }
 
-pub fn first_failing(fields: &[u64; places::MOST_FIELDS], segments: usize, ages: usize) -> u64
+pub fn first_failing(fields: &[u64; MOST_FIELDS], segments: usize, ages: usize) -> u64
     requires { ⌜ Readable segments ages (now fields) ⌝ }
     ensures { λ r. ⌜ r ≡ firstFailing (ranges segments ages (now (fields .entry))) ⌝ }
 {

@@ -4,12 +4,9 @@ ghost use mathlib.Core.Path.{_≡_};
 ghost use Prim.Native.Nat.{_-_, _^_, _≤_, _<_};
 ghost use Rattle.steps.specs.Steps.{frictionLoss, slipLoss, deflectorTicks, yield, relaxationDivisor, relaxationFactor};
 ghost use Rattle.steps.specs.Steps.{relaxationLoss, momentStress, concreteStress, shorteningLoss, creepLoss, shrinkageLoss};
+use coefficient::tables::T;
 use member::Steel;
-
-// What 1.00 reads of a share and of friction.
-const T: u64 = 16_777_216;
-
-const TICKS_PER_UNIT: u64 = 1024;
+use ticks::TICKS_PER_UNIT;
 
 // 2^32: what κ is in parts of.
 const KAPPA_UNIT: u64 = 4_294_967_296;

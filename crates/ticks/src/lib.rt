@@ -33,6 +33,9 @@ const TOO_LARGE: u64 = 1054;
 const BIAS: u64 = 1075;
 // The digits of a fraction.
 const FRACTION_DIGITS: u64 = 52;
+
+pub const TICKS_PER_UNIT: u64 = 1024;
+
 // A unit is 2^10 ticks.
 const TICK_DOUBLINGS: u64 = 10;
 
