@@ -1,0 +1,60 @@
+-- The theorem `marked`: document 01's marked readings and edges, all of them. Each is computed from the definitions, unfolded down to
+-- arithmetic. Assumes nothing.
+use Prim.Native.Nat.{_+_, _*_}
+use mathlib.Core.Path.{_≡_, refl}
+use mathlib.Core.List.{[], _∷_}
+use lib.Dec.{leb→le}
+use Rattle.ticks.specs.Doubles.{ticksOf, magnitude, one}
+use Rattle.logarithm.specs.Logarithm.{logarithm}
+use Rattle.coefficient.specs.Coefficients.{scf, ssf, mcf, ucr, ush, creepShare, shrinkageShare}
+use Rattle.fields.specs.Amounts.{numbersIn}
+use Rattle.fields.specs.Card.{cardOutcome, digitsOf, spacesIn}
+use Rattle.member.specs.Quantities.{segmentsFrom, agesFrom}
+use Rattle.member.specs.Friction.{pathFriction}
+use Rattle.member.specs.Rows.{firstFailing, segmentCodes, rangesOfSegments, rangesOfMoments, hoursOfAges}
+use Rattle.member.specs.Member.{checkedOf}
+use Rattle.losses.specs.Run.{memberResult}
+use Rattle.readings.specs.Readings.{Marked, cardText, fieldsOf, hourly, numberAndPlace, resultOfCard, withAges}
+use Rattle.readings.specs.Readings.{double0153, halfApart}
+
+-- what opens every definition that a reading is computed by
+unfoldable computed : Unit {0}
+unfolding cardText fieldsOf hourly cardOutcome digitsOf spacesIn numbersIn segmentsFrom agesFrom checkedOf firstFailing
+    segmentCodes rangesOfSegments rangesOfMoments hoursOfAges memberResult logarithm scf ssf mcf ucr ush creepShare shrinkageShare
+    pathFriction ticksOf magnitude
+computed = tt
+
+-- the longest run, by itself: its 128 logarithms take most of the steps that a declaration may take
+sixty-four-ages : numberAndPlace (resultOfCard (withAges 64) 256) ≡ 0 ∷ 0 ∷ []
+unfolding computed
+sixty-four-ages = refl
+
+pub marked : Marked
+unfolding computed
+marked = record {
+  sample-fields = refl;
+  sample-ages = refl;
+  sample-result = refl;
+  L1 = refl;
+  L2 = refl;
+  L9 = refl;
+  L10 = refl;
+  L18 = refl;
+  L720 = refl;
+  scf-2560 = refl;
+  scf-thousandths = refl;
+  mcf-96 = refl;
+  creep-36 = λ life. refl;
+  double-156 = refl;
+  double-above = leb→le (153 * one) (1000 * (magnitude double0153 + halfApart)) tt;
+  double-below = leb→le (1000 * magnitude double0153) (153 * one + 1000 * halfApart) tt;
+  parabola-X = refl;
+  surface-1024 = refl;
+  surface-1023 = refl;
+  X-5033164 = refl;
+  X-5033164-passes = refl;
+  X-5033165 = refl;
+  X-5033165-refused = refl;
+  ages-64 = sixty-four-ages;
+  ages-65 = refl;
+}

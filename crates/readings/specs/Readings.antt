@@ -1,0 +1,176 @@
+-- The readings that document 01 marks ★, and its edges, in the order of its "Sample beam": one list of what the definitions of the
+-- other crates give, to be held beside the paper. Assumes nothing.
+use Prim.Native.Nat.{ℕ, zero, suc, _+_, _-_, _*_, _/_, _%_, _^_, _≤_}
+use mathlib.Core.Bool.{cond}
+use mathlib.Core.List.{List, [], _∷_, _++_}
+use mathlib.Core.Path.{_≡_}
+use lib.Dec.{eqb}
+use Rattle.ticks.specs.declared.Amount.the-variants.{Of}
+use Rattle.ticks.specs.Doubles.{ticksOf, magnitude, one}
+use Rattle.logarithm.specs.Logarithm.{logarithm}
+use Rattle.coefficient.specs.declared.codes.Cure.the-variants.{Moist}
+use Rattle.coefficient.specs.declared.clocks.HoursSinceTransfer.{HoursSinceTransfer}
+use Rattle.coefficient.specs.Coefficients.{scf, mcf, creepShare}
+use Rattle.fields.specs.Amounts.{accepted}
+use Rattle.fields.specs.Card.{columns, space, lineFeed, cardOutcome}
+use Rattle.fields.specs.Refusals.{number, place}
+use Rattle.member.specs.Quantities.{Segment, Age, agesOf}
+use Rattle.member.specs.Friction.{pathFriction, parabola}
+use Rattle.member.specs.Member.{frictionOf}
+use Rattle.losses.specs.Run.{Result, reported, refused}
+use Rattle.entries.specs.Promise.{resultOf}
+
+-- ---- the text of a card: "Lines of 14-column fields, decimal digits right-justified behind spaces, each line ended by a line feed."
+
+abbrev pub digit : ℕ → ℕ
+digit n = 48 + n
+
+-- so many columns with what stands before a number's last digit: its further digits, behind spaces
+unfoldable pub columnsBefore : ℕ → ℕ → List ℕ
+columnsBefore zero rest = []
+columnsBefore (suc count) rest = columnsBefore count (rest / 10) ++ (cond (eqb rest 0) space (digit (rest % 10)) ∷ [])
+
+abbrev pub fieldText : ℕ → List ℕ
+fieldText n = columnsBefore (columns - 1) (n / 10) ++ (digit (n % 10) ∷ [])
+
+unfoldable pub lineText : List ℕ → List ℕ
+unfolding columnsBefore
+lineText [] = lineFeed ∷ []
+lineText (n ∷ numbers) = fieldText n ++ lineText numbers
+
+unfoldable pub cardText : List (List ℕ) → List ℕ
+unfolding lineText
+cardText [] = []
+cardText (line ∷ lines) = lineText line ++ cardText lines
+
+-- ---- the sample's card
+
+-- "2 1 240000 120000 0 0 102400 / 2 1 28000000 3500000 4000000 3072 / 131072 1048576 0 1024 0 / 24 24 0 0 0 3 / 744 0 / 8784 0 /
+-- 438000 0", and what an edge changes of it
+abbrev pub line1 : List ℕ
+line1 = 2 ∷ 1 ∷ 240000 ∷ 120000 ∷ 0 ∷ 0 ∷ 102400 ∷ []
+
+abbrev pub line2 : ℕ → List ℕ
+line2 volumeToSurface = 2 ∷ 1 ∷ 28000000 ∷ 3500000 ∷ 4000000 ∷ volumeToSurface ∷ []
+
+abbrev pub line3 : List ℕ
+line3 = 131072 ∷ 1048576 ∷ 0 ∷ 1024 ∷ 0 ∷ []
+
+abbrev pub line4 : ℕ → ℕ → ℕ → ℕ → List ℕ
+line4 wobble curvature segments ages = 24 ∷ 24 ∷ wobble ∷ curvature ∷ segments ∷ ages ∷ []
+
+abbrev pub ageLines : List (List ℕ)
+ageLines = (744 ∷ 0 ∷ []) ∷ (8784 ∷ 0 ∷ []) ∷ (438000 ∷ 0 ∷ []) ∷ []
+
+abbrev pub sampleLines : List (List ℕ)
+sampleLines = line1 ∷ line2 3072 ∷ line3 ∷ line4 0 0 0 3 ∷ ageLines
+
+abbrev pub sample : List ℕ
+sample = cardText sampleLines
+
+-- the fields of some lines, in order
+unfoldable pub fieldsOf : List (List ℕ) → List ℕ
+fieldsOf [] = []
+fieldsOf (line ∷ lines) = line ++ fieldsOf lines
+
+-- ---- the cards of the edges
+
+abbrev pub withVolumeToSurface : ℕ → List ℕ
+withVolumeToSurface volumeToSurface = cardText (line1 ∷ line2 volumeToSurface ∷ line3 ∷ line4 0 0 0 3 ∷ ageLines)
+
+-- wobble 1, curvature 150,000, a bend of 2 radians and a straight segment of this length
+abbrev pub withDuct : ℕ → List ℕ
+withDuct straight =
+    cardText (line1 ∷ line2 3072 ∷ line3 ∷ line4 1 150000 2 3 ∷ (3 ∷ 0 ∷ 2048 ∷ []) ∷ (1 ∷ straight ∷ 0 ∷ []) ∷ ageLines)
+
+-- so many ages, an hour apart, from this hour on
+unfoldable pub hourly : ℕ → ℕ → List (List ℕ)
+hourly zero hour = []
+hourly (suc count) hour = (hour ∷ 0 ∷ []) ∷ hourly count (suc hour)
+
+-- the 65th would still be within the service life
+abbrev pub withAges : ℕ → List ℕ
+withAges count = cardText (line1 ∷ line2 3072 ∷ line3 ∷ line4 0 0 0 count ∷ hourly count 437936)
+
+-- ---- what a card gives
+
+-- with room for so many numbers in report and scratch
+abbrev pub resultOfCard : List ℕ → ℕ → Result
+resultOfCard card room = resultOf (cardOutcome card) room room
+
+-- a refusal's number and place, both "0 if accepted"
+abbrev pub numberAndPlace : Result → List ℕ
+numberAndPlace (reported before rows last) = 0 ∷ 0 ∷ []
+numberAndPlace (refused refusal) = number refusal ∷ place refusal ∷ []
+
+-- X that a card's duct has, with so many segments
+abbrev pub frictionOfCard : List ℕ → ℕ → ℕ
+frictionOfCard card segments = frictionOf segments (cardOutcome card .numbers)
+
+abbrev pub age : ℕ → ℕ → Age
+age hour moment = record { hour = hour; moment = moment }
+
+-- "creep, shrinkage, relaxation, stress per age"
+abbrev pub row : ℕ → ℕ → ℕ → ℕ → List ℕ
+row creep shrinkage relaxation stress = creep ∷ shrinkage ∷ relaxation ∷ stress ∷ []
+
+-- ---- the other readings
+
+-- a reading of creep's clock
+abbrev pub creepClock : ℕ → HoursSinceTransfer
+creepClock hours = record { 0 = hours }
+
+-- the double 0.153, 0x3FC395810624DD2F: its exponent and its fraction
+abbrev pub double0153 : ℕ
+double0153 = 1020 * 2 ^ 52 + 1008806316530991
+
+-- half of the distance between doubles of this exponent, as a multiple of 1 / 2 ^ 1074
+abbrev pub halfApart : ℕ
+halfApart = 2 ^ 1018
+
+abbrev pub parabolaOf : ℕ → ℕ → Segment
+parabolaOf length rise = record { kind = parabola; length = length; rise = rise }
+
+-- ---- the list
+
+pub record Marked : Type 0 where
+  -- "this sample": the fields of its text, its ages (the first, the second, the third), and what it gives
+  pub sample-fields : cardOutcome sample ≡ accepted 0 3 (fieldsOf sampleLines)
+  pub sample-ages : agesOf 0 3 (cardOutcome sample .numbers) ≡ age 744 0 ∷ age 8784 0 ∷ age 438000 0 ∷ []
+  pub sample-result : resultOfCard sample 12 ≡ reported
+      (record { friction = 0; slip = 0; deflector = 0; «early_relaxation» = 0; shortening = 7228235; stress = 115651765 })
+      (row 3026370 5548031 1651198 105426166
+      ++ (row 3074075 5812223 572430 95967438
+      ++ row 1865515 1849344 815347 91437232))
+      91437232
+  -- "L(1)=0, L(2)=77, L(9)=244, L(10)=256, L(18)=321, L(720)=731"
+  pub L1 : logarithm 1 ≡ 0
+  pub L2 : logarithm 2 ≡ 77
+  pub L9 : logarithm 9 ≡ 244
+  pub L10 : logarithm 10 ≡ 256
+  pub L18 : logarithm 18 ≡ 321
+  pub L720 : logarithm 720 ≡ 731
+  -- "SCF at 2,560 ticks .915", in 102,400ths
+  pub scf-2560 : scf 2560 ≡ 93696
+  pub scf-thousandths : scf 2560 * 1000 ≡ 915 * 102400
+  -- "MCF at 96 h 79,560"
+  pub mcf-96 : mcf Moist 96 ≡ 79560
+  -- "creep share at 36 h 1,929,379", whatever the clock reads at the end of the service life
+  pub creep-36 : (life : HoursSinceTransfer) → creepShare life (creepClock 36) ≡ 1929379
+  -- "double 0.153 gives 156"; no double is nearer to 0.153
+  pub double-156 : ticksOf double0153 ≡ Of 156
+  pub double-above : 153 * one ≤ 1000 * (magnitude double0153 + halfApart)
+  pub double-below : 1000 * magnitude double0153 ≤ 153 * one + 1000 * halfApart
+  -- "parabola 65,536 by 2,560, wobble 200, curvature 150,000: X 411,356"
+  pub parabola-X : pathFriction 200 150000 (parabolaOf 65536 2560 ∷ []) ≡ 411356
+  -- "volume/surface 1,024 passes, 1,023 gives 2", at field 13
+  pub surface-1024 : numberAndPlace (resultOfCard (withVolumeToSurface 1024) 12) ≡ 0 ∷ 0 ∷ []
+  pub surface-1023 : numberAndPlace (resultOfCard (withVolumeToSurface 1023) 12) ≡ 2 ∷ 13 ∷ []
+  -- "X 5,033,164 passes, 5,033,165 gives 4", at place 2
+  pub X-5033164 : frictionOfCard (withDuct 61) 2 ≡ 5033164
+  pub X-5033164-passes : numberAndPlace (resultOfCard (withDuct 61) 12) ≡ 0 ∷ 0 ∷ []
+  pub X-5033165 : frictionOfCard (withDuct 62) 2 ≡ 5033165
+  pub X-5033165-refused : numberAndPlace (resultOfCard (withDuct 62) 12) ≡ 4 ∷ 2 ∷ []
+  -- "64 ages pass, 65 give 2", at field 24
+  pub ages-64 : numberAndPlace (resultOfCard (withAges 64) 256) ≡ 0 ∷ 0 ∷ []
+  pub ages-65 : numberAndPlace (resultOfCard (withAges 65) 260) ≡ 2 ∷ 24 ∷ []
