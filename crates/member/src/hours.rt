@@ -12,6 +12,14 @@ use fields::layout::MOST_FIELDS;
 use fields::layout::PER_AGE;
 use fields::layout::PER_SEGMENT;
 
+const MOST_MOIST_CURING: u64 = 168;
+
+const LEAST_MOIST_TRANSFER: u64 = 72;
+
+const LEAST_TRANSFER: u64 = 1;
+
+const MOST_TRANSFER: u64 = 960;
+
 fn curing_fits(fields: &[u64; MOST_FIELDS]) -> bool
     ensures { λ r. ⌜ r ≡ curingFits (now (fields .entry)) ⌝ }
 {
@@ -20,7 +28,7 @@ fn curing_fits(fields: &[u64; MOST_FIELDS]) -> bool
     let pretensioned = fields[places::KIND] == places::PRETENSIONED;
     let kind = row::implies(pretensioned, curing == transfer);
     let moist = fields[places::CURE] == places::MOIST;
-    let cure = row::implies(moist, curing <= 168);
+    let cure = row::implies(moist, curing <= MOST_MOIST_CURING);
     row::both(row::both(curing <= transfer, kind), cure)
 }
 
@@ -28,11 +36,11 @@ fn transfer_fits(fields: &[u64; MOST_FIELDS]) -> bool
     ensures { λ r. ⌜ r ≡ transferFits (now (fields .entry)) ⌝ }
 {
     let least = if fields[places::CURE] == places::MOIST {
-        72
+        LEAST_MOIST_TRANSFER
     } else {
-        1
+        LEAST_TRANSFER
     };
-    row::in_range(least, 960, fields[places::TRANSFER])
+    row::in_range(least, MOST_TRANSFER, fields[places::TRANSFER])
 }
 
 fn age_hours(fields: &[u64; MOST_FIELDS], segments: usize, ages: usize) -> u64

@@ -12,6 +12,12 @@ const WHOLE: u64 = 4_294_967_296;
 // 2^32 over 1,024 twice
 const WHOLE_OF_TICKS: u64 = 4_096;
 
+// "U = UCR·SCF·MCF/439,453,125"
+const CREEP_DIVISOR: u64 = 439_453_125;
+
+// "S = USH·SSF/10^8"
+const SHRINKAGE_DIVISOR: u64 = 100_000_000;
+
 pub fn kappa_of(steel_area: u64, area: u64, eccentricity: u64, inertia: u64) -> u64
     requires { ⌜ SectionFits «steel_area» area eccentricity inertia ⌝ }
     ensures { λ r. ⌜ r ≡ kappa «steel_area» area eccentricity inertia ⌝ }
@@ -33,7 +39,7 @@ pub fn whole_creep(
     let ucr = coefficient::ucr_of(cure, concrete, ec);
     let scf = coefficient::scf_of(volume_to_surface);
     let mcf = coefficient::mcf_of(cure, transfer);
-    ucr * scf * mcf / 439_453_125
+    ucr * scf * mcf / CREEP_DIVISOR
 }
 
 pub fn whole_shrinkage(concrete: Concrete, ec: u32, volume_to_surface: u32) -> u64
@@ -41,5 +47,5 @@ pub fn whole_shrinkage(concrete: Concrete, ec: u32, volume_to_surface: u32) -> u
 {
     let ush = coefficient::ush_of(concrete, ec);
     let ssf = coefficient::ssf_of(volume_to_surface);
-    ush * ssf / 100_000_000
+    ush * ssf / SHRINKAGE_DIVISOR
 }
