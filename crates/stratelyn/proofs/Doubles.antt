@@ -1,0 +1,55 @@
+-- The bits of doubles: infinity's are no NaN's. Assumes nothing.
+use mathlib.Core.Path.{_≡_, sym, ap, _∙_}
+use mathlib.Core.Bool.{false, not}
+use Prim.Native.Nat.{ℕ, _*_, _%_, _^_, _≤_, _<_}
+use native.Mathlib.Nat.{mul-one, mul-right-comm}
+use lib.Dec.{T, lit<}
+use lib.Ieee.{Float, nan, inf, fin, binary64, up, down, isNan, nanBits, ofBits, toBits}
+use lib.Ieee.Exact.{HasValue}
+use lib.Ieee.Fits.{down-pos}
+use lib.Ieee.Nearest.{div-same}
+use Rattle.ticks.specs.Doubles.{ticksPerUnit}
+use Rattle.stratelyn.specs.Hosts.{doubleOf}
+use lib.Ieee.Bits.{nanBits-above}
+use borrow.Author.Tests.{lt-ltb, le-ltb}
+use Rattle.stratelyn.specs.Parts.{standsFor}
+
+-- 2047 times 2 ^ 52: the bits of infinity
+abbrev infinity : ℕ
+infinity = 0x7FF0_0000_0000_0000
+
+pub above : (bits : ℕ) → infinity < bits % 2 ^ 63 → inf false ≡ standsFor bits
+above bits h = rw (nanBits-above binary64 bits ∙ lt-ltb infinity (bits % 2 ^ 63) h)
+
+below-test : (bits : ℕ) → bits % 2 ^ 63 ≤ infinity → nanBits binary64 bits ≡ false
+below-test bits h = nanBits-above binary64 bits ∙ le-ltb infinity (bits % 2 ^ 63) h
+
+pub below : (bits : ℕ) → bits % 2 ^ 63 ≤ infinity → ofBits binary64 bits ≡ standsFor bits
+below bits h = rw (below-test bits h)
+
+pub no-nan : (bits : ℕ) → bits % 2 ^ 63 ≤ infinity → T (not (nanBits binary64 bits))
+no-nan bits h = rw (below-test bits h) tt
+
+-- ---- the bits of a double are those of its value
+
+scaled : (m u d ticks k : ℕ) → m * u * 1024 ≡ ticks * d → m * u * k * 1024 ≡ ticks * 1 * k * d
+scaled m u d ticks k e =
+    mul-right-comm (m * u) k 1024 ∙ ap (λ (n : ℕ). n * k) e ∙ mul-right-comm ticks d k
+    ∙ ap (λ (n : ℕ). n * k * d) (sym (mul-one ticks))
+
+pub same-bits : (x : Float) (ticks : ℕ) → HasValue x false ticks ticksPerUnit → toBits binary64 x ≡ toBits binary64 (doubleOf ticks)
+unfolding toBits
+same-bits nan ticks v = absurd v
+same-bits (inf s) ticks v = absurd v
+same-bits (fin s m e) ticks v =
+    rw (
+      v .0,
+      div-same (m * up e * 2 ^ 1074) (down e) (ticks * 1 * 2 ^ 1074) 1024 (down-pos e) (lit< tt) (scaled m (up e) (down e) ticks (2 ^ 1074) (v .1)),
+    )
+
+-- a double that has a value is no NaN
+pub finite : (x : Float) (ticks : ℕ) → HasValue x false ticks ticksPerUnit → T (not (isNan x))
+unfolding isNan
+finite nan ticks v = absurd v
+finite (inf s) ticks v = tt
+finite (fin s m e) ticks v = tt

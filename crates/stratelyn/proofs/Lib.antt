@@ -1,0 +1,7 @@
+mod Lists
+mod Bytes
+mod Doubles
+mod Rows
+mod Hosting
+mod Serving
+mod ListBytes

@@ -1,0 +1,34 @@
+-- A reply slice under 64 bytes is looked at first; else what the reader gives is answered. Assumes nothing.
+use borrow.Author.Needs.{needs}
+use Rattle.fields.proofs.CardLaws.{card-accepted}
+use Rattle.stratelyn.proofs.Serving.{unserved, readable-if, served}
+use Rattle.stratelyn.proofs.stratelyn_run_card.Statement.{statement}
+use Rattle.stratelyn.proofs.stratelyn_run_card.Tie as tie
+
+returns : tie.Need-returns
+returns c = unserved _ (card-accepted _) _ _ _ (c .if1 .taken)
+
+read-card-requires : tie.Need-read-card-requires
+read-card-requires c κs = search needs
+
+serve-requires : tie.Need-serve-requires
+serve-requires c κs = 
+    let read = c .before .before .before in
+    (c .before .before .before .before .before .if1 .left, readable-if _ (card-accepted _) _ _ (read .read-card .ensures .0) (read .read-card .ensures .1))
+
+same-length : tie.Need-same-length
+same-length c = search needs
+
+same-length-2 : tie.Need-same-length-2
+same-length-2 c = search needs
+
+returns-2 : tie.Need-returns-2
+returns-2 c = 
+    let serving = c .before .before .before .before in
+    let read = serving .before .before .before .before in
+    served _ (card-accepted _) _ _ (read .read-card .ensures .0) (read .read-card .ensures .1) _ _ _ (read .before .before .if1 .left) (serving .serve .ensures)
+
+pub stratelyn-run-card-spec : {M : Type 1} → statement M
+stratelyn-run-card-spec =
+    tie.close
+    (tie.spec returns read-card-requires serve-requires same-length same-length-2 returns-2)

@@ -1,0 +1,35 @@
+-- A reply slice under 64 bytes is looked at first; else what the reader gives is answered. Assumes nothing.
+use borrow.Author.Needs.{needs}
+use Rattle.stratelyn.proofs.ListBytes.{bytes-accepted}
+use Rattle.stratelyn.proofs.Serving.{unserved, readable-if, served}
+use Rattle.stratelyn.proofs.stratelyn_run_list.Statement.{statement}
+use Rattle.stratelyn.proofs.stratelyn_run_list.Tie as tie
+
+returns : tie.Need-returns
+returns c = unserved _ (bytes-accepted _) _ _ _ (c .if1 .taken)
+
+read-list-requires : tie.Need-read-list-requires
+read-list-requires c κs = search needs
+
+serve-requires : tie.Need-serve-requires
+serve-requires c κs = 
+    let read = c .before .before .before in
+    (read .before .before .if1 .left, readable-if _ (bytes-accepted _) _ _ (read .read-list .ensures .0) (read .read-list .ensures .1))
+
+same-length : tie.Need-same-length
+same-length c = search needs
+
+same-length-2 : tie.Need-same-length-2
+same-length-2 c = search needs
+
+returns-2 : tie.Need-returns-2
+returns-2 c = 
+    let serving = c .before .before .before .before in
+    let read = serving .before .before .before .before in
+    served _ (bytes-accepted _) _ _ (read .read-list .ensures .0) (read .read-list .ensures .1) _ _ _
+    (read .before .before .if1 .left) (serving .serve .ensures)
+
+pub stratelyn-run-list-spec : {M : Type 1} → statement M
+stratelyn-run-list-spec =
+    tie.close
+    (tie.spec returns read-list-requires serve-requires same-length same-length-2 returns-2)

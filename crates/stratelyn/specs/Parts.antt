@@ -1,0 +1,42 @@
+-- What a host's numbers pass through on their way. Document 01 does not speak of it, and what an entry gives does not depend on it.
+-- Assumes nothing.
+use Prim.Native.Nat.{ℕ, _+_, _*_, _≤_}
+use mathlib.Core.Path.{_≡_}
+use mathlib.Core.Bool.{false, cond}
+use mathlib.Core.List.{List}
+use lib.Ieee.{Float, inf, binary64, nanBits, ofBits}
+use lib.ListN.{take}
+use Rattle.fields.specs.declared.refusal.Reading.{Reading}
+use Rattle.fields.specs.declared.refusal.Reading.the-variants.{Fields, Not}
+use Rattle.fields.specs.Layout.{mostAges, mostFields}
+use Rattle.member.specs.Readable.{Readable}
+use Rattle.member.specs.Rows.{perRow}
+use Rattle.losses.specs.declared.Answer.{Answer}
+use Rattle.losses.specs.Run.{Result, reported, refused, Answered}
+
+-- the double with these bits, and infinity for a NaN
+abbrev pub standsFor : ℕ → Float
+standsFor bits = cond (nanBits binary64 bits) (inf false) (ofBits binary64 bits)
+
+-- one more than the most fields
+abbrev pub mostDoubles : ℕ
+mostDoubles = mostFields + 1
+
+-- the most numbers that a run can ask a buffer for
+abbrev pub mostNumbers : ℕ
+mostNumbers = perRow * mostAges
+
+-- what the run requires of the fields that a reader has read
+abbrev pub ReadableIf : Reading → List ℕ → Type 0
+ReadableIf (Fields segments ages) fields = Readable segments ages fields
+ReadableIf (Not refusal) fields = Unit {0}
+
+-- the rows of an accepted run at the front of some numbers, and the report's room for them
+abbrev pub Front : Result → ℕ → ℕ → List ℕ → Type 0
+Front (reported before rows last) ages room numbers = (rows ≡ take (perRow * ages) numbers) × (perRow * ages ≤ room)
+Front (refused refusal) ages room numbers = Unit {0}
+
+-- what a run gives that writes its rows there
+pub record Rowed (result : Result) (ages room : ℕ) (answer : Answer) (numbers : List ℕ) : Type 0 where
+  pub answered : Answered result answer
+  pub front : Front result ages room numbers

@@ -1,0 +1,97 @@
+// Numbers in a host's bytes.
+ghost use mathlib.Core.Path.{_≡_};
+ghost use mathlib.Core.List.{map};
+ghost use Prim.Native.Nat.{_*_, min, _≤_};
+ghost use lib.ListN.{length};
+ghost use Rattle.ticks.specs.Numbers.{bytesPerNumber};
+ghost use Rattle.fields.specs.Amounts.{over};
+ghost use Rattle.fields.specs.Lists.{listOutcome};
+ghost use Rattle.stratelyn.specs.Numbers.{room, numbersFrom, doublesOf, bytesOutcome};
+ghost use Rattle.stratelyn.specs.Hosts.{written};
+ghost use Rattle.stratelyn.specs.Parts.{standsFor, mostDoubles};
+use fields::layout::MOST_FIELDS;
+use fields::refusal::Reading;
+use fields::refusal::Refusal;
+
+const BYTES_PER_NUMBER: usize = 8;
+
+// One more than the most fields.
+const MOST_DOUBLES: usize = MOST_FIELDS + 1;
+
+// 2^63: the bits of -0.0.
+const MINUS_ZERO: u64 = 0x8000_0000_0000_0000;
+
+// The bits of infinity; a NaN's are above them, but for the sign.
+const INFINITY: u64 = 0x7FF0_0000_0000_0000;
+
+// How many numbers so many bytes hold, up to the most that are asked for.
+pub fn room_up_to(most: usize, bytes: usize) -> usize
+    ensures { λ r. ⌜ r ≡ min (room bytes) most ⌝ }
+{
+    let room = bytes / BYTES_PER_NUMBER;
+    if most < room {
+        return most;
+    }
+    room
+}
+
+// Some numbers' bytes at the front of a buffer.
+pub fn write_numbers(numbers: &[u64], buffer: &mut [u8])
+    requires { ⌜ bytesPerNumber * length (now numbers) ≤ length (now buffer) ⌝ }
+    ensures { λ _. ⌜ now (buffer .exit) ≡ written (now (numbers .entry)) (now (buffer .entry)) ⌝ }
+{
+    let mut done = 0usize;
+    while done < numbers.len() {
+        let at = BYTES_PER_NUMBER * done;
+        ticks::write_number(&mut buffer[at..], numbers[done]);
+        done += 1;
+    }
+}
+
+// The double with these bits. A NaN has no bits of its own in the model of floats, so that infinity stands for it: every reading
+// refuses both.
+fn double_of(bits: u64) -> f64
+    ensures { λ r. ⌜ r ≡ standsFor bits ⌝ }
+{
+    if INFINITY < bits % MINUS_ZERO {
+        return f64::from_bits(INFINITY);
+    }
+    f64::from_bits(bits)
+}
+
+// The doubles that the first bytes of a list hold.
+fn read_doubles(list: &[u8], doubles: &mut [f64])
+    requires { ⌜ bytesPerNumber * length (now doubles) ≤ length (now list) ⌝ }
+    ensures { λ _. ⌜ now (doubles .exit) ≡ map standsFor (numbersFrom (length (now (doubles .entry))) (now (list .entry))) ⌝ }
+{
+    let mut read = 0usize;
+    while read < doubles.len() {
+        let at = BYTES_PER_NUMBER * read;
+        doubles[read] = double_of(ticks::read_number(&list[at..]));
+        read += 1;
+    }
+}
+
+// Reads the doubles of a list by way of `doubles`, which has room for one more than the most fields: a list of more has a wrong
+// length, and so have its first doubles.
+fn read_by(list: &[u8], doubles: &mut [f64], fields: &mut [u64; MOST_FIELDS]) -> Reading
+    requires { ⌜ length (now doubles) ≡ mostDoubles ⌝ }
+    ensures { λ r. ⌜ r ≡ listOutcome (doublesOf (now (list .entry))) .reading ⌝ }
+    ensures { λ r. ⌜ now (fields .exit) ≡ over (listOutcome (doublesOf (now (list .entry))) .numbers) (now (fields .entry)) ⌝ }
+{
+    let count = room_up_to(MOST_DOUBLES, list.len());
+    read_doubles(list, &mut doubles[..count]);
+    fields::list::read_list(&doubles[..count], fields)
+}
+
+// Reads a list: its numbers go to the front of `fields`, all of them or those before the first field that is refused.
+pub fn read_list(list: &[u8], fields: &mut [u64; MOST_FIELDS]) -> Reading
+    ensures { λ r. ⌜ r ≡ bytesOutcome (now (list .entry)) .reading ⌝ }
+    ensures { λ r. ⌜ now (fields .exit) ≡ over (bytesOutcome (now (list .entry)) .numbers) (now (fields .entry)) ⌝ }
+{
+    if list.len() % BYTES_PER_NUMBER != 0 {
+        return Reading::Not(Refusal::Shape(0));
+    }
+    let mut doubles = [0.0f64; MOST_DOUBLES];
+    read_by(list, &mut doubles, fields)
+}

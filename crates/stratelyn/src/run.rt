@@ -1,0 +1,140 @@
+// The run of what a reader gives, answered in a host's bytes.
+ghost use mathlib.Core.Path.{_≡_};
+ghost use mathlib.Core.Bool.{not};
+ghost use Prim.Native.Nat.{_≤_};
+ghost use lib.Dec.{T};
+ghost use lib.ListN.{length};
+ghost use lib.Ieee.{isNan, binary64, toBits, ofBits};
+ghost use Rattle.fields.specs.Refusals.{number};
+ghost use Rattle.member.specs.Readable.{Readable};
+ghost use Rattle.losses.specs.Run.{resultOfReading, refused};
+ghost use Rattle.stratelyn.specs.Numbers.{room};
+ghost use Rattle.stratelyn.specs.Hosts.{replyBytes, acceptance, replyOf, written, Hosted};
+ghost use Rattle.stratelyn.specs.Parts.{mostNumbers, ReadableIf, Rowed};
+use crate::numbers;
+use fields::layout::MOST_AGES;
+use fields::layout::MOST_FIELDS;
+use fields::refusal::Reading;
+use fields::refusal::Refusal;
+use losses::Answer;
+use losses::BeforeAges;
+use member::buffers::PER_ROW;
+
+pub const REPLY_BYTES: usize = 64;
+
+// The most numbers that the rows of a report have.
+const MOST_NUMBERS: usize = PER_ROW * MOST_AGES;
+
+// What an accepted run returns.
+const ACCEPTED: u64 = 0;
+
+// A refusal: its number, and its place with seven zeros for the reply.
+fn refuse(refusal: Refusal, reply: &mut [u8]) -> u64
+    requires { ⌜ replyBytes ≤ length (now reply) ⌝ }
+    ensures { λ r. ⌜ (r ≡ number refusal) × (now (reply .exit) ≡ written (replyOf (refused refusal)) (now (reply .entry))) ⌝ }
+{
+    let numbers = [fields::refusal::place_of(refusal), 0, 0, 0, 0, 0, 0, 0];
+    numbers::write_numbers(&numbers, reply);
+    fields::refusal::number_of(refusal)
+}
+
+// An accepted run's reply.
+fn accept(before: BeforeAges, last: f64, reply: &mut [u8]) -> u64
+    requires { ⌜ (replyBytes ≤ length (now reply)) × T (not (isNan last)) ⌝ }
+    ensures { λ r. ⌜ (r ≡ 0) × (now (reply .exit) ≡ written (acceptance before (toBits binary64 last)) (now (reply .entry))) ⌝ }
+    ensures { λ r. ⌜ ofBits binary64 (toBits binary64 last) ≡ last ⌝ }
+{
+    let numbers = [
+        0,
+        before.friction,
+        before.slip,
+        before.deflector,
+        before.early_relaxation,
+        before.shortening,
+        before.stress,
+        f64::to_bits(last),
+    ];
+    numbers::write_numbers(&numbers, reply);
+    ACCEPTED
+}
+
+// The run of fields that a reader has filled, with the room that a host's buffers have. Its rows go to the front of `rows`.
+fn run_rows(
+    fields: &[u64; MOST_FIELDS],
+    segments: u64,
+    ages: u64,
+    report_bytes: usize,
+    scratch_bytes: usize,
+    rows: &mut [u64],
+) -> Answer
+    requires { ⌜ Readable segments ages (now fields) × (mostNumbers ≤ length (now rows)) ⌝ }
+    ensures { λ r. ⌜ Rowed (resultOfReading (Reading.Fields segments ages) (now (fields .entry)) (room «report_bytes») (room «scratch_bytes»))
+        ages (room «report_bytes») r (now (rows .exit)) ⌝ }
+{
+    let mut scratch = [0u64; MOST_NUMBERS];
+    let report_room = numbers::room_up_to(MOST_NUMBERS, report_bytes);
+    let scratch_room = numbers::room_up_to(MOST_NUMBERS, scratch_bytes);
+    losses::run_fields(
+        fields,
+        segments,
+        ages,
+        &mut rows[..report_room],
+        &mut scratch[..scratch_room],
+    )
+}
+
+// The run of fields that a reader has filled, answered.
+fn serve_fields(
+    fields: &[u64; MOST_FIELDS],
+    segments: u64,
+    ages: u64,
+    scratch_bytes: usize,
+    report: &mut [u8],
+    reply: &mut [u8],
+) -> u64
+    requires { ⌜ (replyBytes ≤ length (now reply)) × Readable segments ages (now fields) ⌝ }
+    ensures { λ r. ⌜ Hosted (resultOfReading (Reading.Fields segments ages) (now (fields .entry)) (room (length (now (report .entry))))
+        (room «scratch_bytes»)) r (now (report .exit)) (now (report .entry)) (now (reply .exit)) (now (reply .entry)) ⌝ }
+{
+    let mut rows = [0u64; MOST_NUMBERS];
+    match run_rows(
+        fields,
+        segments,
+        ages,
+        report.len(),
+        scratch_bytes,
+        &mut rows,
+    ) {
+        Answer::Refused(refusal) => refuse(refusal, reply),
+        Answer::Accepted(given) => {
+            let count = PER_ROW * (ages as usize);
+            numbers::write_numbers(&rows[..count], report);
+            accept(given.before, given.last, reply)
+        }
+    }
+}
+
+// What a reader gives, answered.
+pub fn serve(
+    reading: Reading,
+    fields: &[u64; MOST_FIELDS],
+    scratch_bytes: usize,
+    report: &mut [u8],
+    reply: &mut [u8],
+) -> u64
+    requires { ⌜ (replyBytes ≤ length (now reply)) × ReadableIf reading (now fields) ⌝ }
+    ensures { λ r. ⌜ Hosted (resultOfReading reading (now (fields .entry)) (room (length (now (report .entry)))) (room «scratch_bytes»))
+        r (now (report .exit)) (now (report .entry)) (now (reply .exit)) (now (reply .entry)) ⌝ }
+{
+    match reading {
+        Reading::Not(refusal) => refuse(refusal, reply),
+        Reading::Fields(segments, ages) => serve_fields(
+            fields,
+            segments,
+            ages,
+            scratch_bytes,
+            report,
+            reply,
+        ),
+    }
+}
