@@ -83,7 +83,7 @@ fn put_line(numbers: &[u64], line: &mut [u8]) -> usize
 }
 
 // A line of up to six numbers.
-fn print_numbers(numbers: &[u64]) {
+pub fn print_numbers(numbers: &[u64]) {
     let mut line = [0u8; MOST_BYTES];
     let count = put_line(numbers, &mut line);
     io::write_all(STDOUT_FILENO, &line[..count]);

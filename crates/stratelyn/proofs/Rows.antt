@@ -136,7 +136,7 @@ module _ (segments ages : ℕ) (fields : List ℕ) where
         front (reported before rows last) e w =
             let fit = rows-fit report scratch before rows last e in (
               sym (ap (λ (l : List ℕ). take (perRow * ages) (l ++ rest)) w
-              ∙ ap (take (perRow * ages)) (append-assoc rows (drop (length rows) part) rest)
-              ∙ take-at rows (drop (length rows) part ++ rest) (perRow * ages) (fit .0)),
+                  ∙ ap (take (perRow * ages)) (append-assoc rows (drop (length rows) part) rest)
+                  ∙ take-at rows (drop (length rows) part ++ rest) (perRow * ages) (fit .0)),
               fit .1,
             )

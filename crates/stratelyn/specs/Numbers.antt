@@ -35,6 +35,5 @@ doublesOf bytes = map (ofBits binary64) (numbersOf bytes)
 
 -- What a list's bytes give. "A list whose byte length is no multiple of 8 gives 8, place 0"
 unfoldable pub bytesOutcome : List ℕ → Outcome
-
 bytesOutcome bytes =
     cond (eqb (length bytes % bytesPerNumber) 0) (listOutcome (doublesOf bytes)) (refused (Shape 0) [])

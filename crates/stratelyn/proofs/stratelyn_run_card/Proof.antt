@@ -12,7 +12,7 @@ read-card-requires : tie.Need-read-card-requires
 read-card-requires c κs = search needs
 
 serve-requires : tie.Need-serve-requires
-serve-requires c κs = 
+serve-requires c κs =
     let read = c .before .before .before in
     (c .before .before .before .before .before .if1 .left, readable-if _ (card-accepted _) _ _ (read .read-card .ensures .0) (read .read-card .ensures .1))
 
@@ -23,7 +23,7 @@ same-length-2 : tie.Need-same-length-2
 same-length-2 c = search needs
 
 returns-2 : tie.Need-returns-2
-returns-2 c = 
+returns-2 c =
     let serving = c .before .before .before .before in
     let read = serving .before .before .before .before in
     served _ (card-accepted _) _ _ (read .read-card .ensures .0) (read .read-card .ensures .1) _ _ _ (read .before .before .if1 .left) (serving .serve .ensures)

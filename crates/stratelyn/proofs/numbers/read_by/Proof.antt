@@ -14,7 +14,7 @@ slice-relend-prefix-read-doubles : tie.Need-slice-relend-prefix-read-doubles
 slice-relend-prefix-read-doubles c = search needs
 
 slice-aggregate-read-doubles : tie.Need-slice-aggregate-read-doubles
-slice-aggregate-read-doubles c = 
+slice-aggregate-read-doubles c =
     let start = c .before .before .before .before in
     sym (front-length (now (start .args .list)) _ _ (c .before .room-up-to .ensures) (start .pre))
 
@@ -27,7 +27,7 @@ slice-reshare-prefix-read-list : tie.Need-slice-reshare-prefix-read-list
 slice-reshare-prefix-read-list c = search needs
 
 slice-aggregate-read-list : tie.Need-slice-aggregate-read-list
-slice-aggregate-read-list c = 
+slice-aggregate-read-list c =
     let read = c .before .before .before in
     let counted = read .before .before in
     let start = counted .before .before .before in
@@ -41,7 +41,7 @@ same-length : tie.Need-same-length
 same-length c = search needs
 
 returns : tie.Need-returns
-returns c = 
+returns c =
     let read = c .before .before .before .before .before in
     let counted = read .before .before in
     let start = counted .before .before .before in

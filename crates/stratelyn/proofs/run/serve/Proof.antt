@@ -14,7 +14,7 @@ enum-known-reading-2 : tie.Need-enum-known-reading-2
 enum-known-reading-2 c = search needs
 
 serve-fields-requires : tie.Need-serve-fields-requires
-serve-fields-requires c κs = 
+serve-fields-requires c κs =
     let told = c .before .before .before in
     let start = told .before .before .before .before in
     (start .pre .0, rw (told .reading2 .given .1) at (start .pre .1))
@@ -23,7 +23,7 @@ same-length : tie.Need-same-length
 same-length c = search needs
 
 returns : tie.Need-returns
-returns c = 
+returns c =
     let told = c .before .before .before .before .before in
     rw (told .reading .given .1) (hosted-refusal _ _ (c .before .before .refuse .ensures))
 
@@ -34,7 +34,7 @@ same-length-3 : tie.Need-same-length-3
 same-length-3 c = search needs
 
 returns-2 : tie.Need-returns-2
-returns-2 c = 
+returns-2 c =
     let told = c .before .before .before .before .before .before .before .before in
     rw (told .reading2 .given .1) (c .before .before .before .before .serve-fields .ensures)
 

@@ -57,7 +57,7 @@ enum-known-given : tie.Need-enum-known-given
 enum-known-given c = search needs
 
 mul-count : tie.Need-mul-count
-mul-count c = 
+mul-count c =
     let most = c .before .before .before .before .before .before .before .before .pre .1 .ages-most in
     record { fits = omega arith }
 
@@ -68,12 +68,12 @@ slice-aggregate-write-numbers : tie.Need-slice-aggregate-write-numbers
 slice-aggregate-write-numbers c = sym (length-take-le _ _ (count-within (c .before)))
 
 write-numbers-requires : tie.Need-write-numbers-requires
-write-numbers-requires c κs = 
+write-numbers-requires c κs =
     let told = c .before .before in
     rw (length-take-le _ (rows (told .before .before .before .before)) (count-within told)) (run-room _ _ _ _ _ (rowed told))
 
 accept-requires : tie.Need-accept-requires
-accept-requires c κs = 
+accept-requires c κs =
     let told = c .before .before .before .before .before .before in
     (told .before .before .before .before .before .before .before .before .pre .0, run-finite _ _ _ _ _ (rowed told))
 
@@ -81,7 +81,7 @@ same-length : tie.Need-same-length
 same-length c = search needs
 
 returns : tie.Need-returns
-returns c = 
+returns c =
     let told = c .before .before .before .before in
     let ran = told .before .before .before .before in
     rw (run-refused _ _ _ _ _ (rw (told .before .refusal .given .1) at (ran .run-rows .ensures)))
@@ -94,7 +94,7 @@ same-length-3 : tie.Need-same-length-3
 same-length-3 c = search needs
 
 returns-2 : tie.Need-returns-2
-returns-2 c = 
+returns-2 c =
     let accepted = c .before .before in
     let write = accepted .before .before .before .before in
     run-accepted _ _ _ _ _ (rowed (write .before .before .before)) (write .write-numbers .ensures)

@@ -1,0 +1,52 @@
+// The cards: each one's file, and below it its answer.
+use crate::title::print_title;
+use printing::print_card;
+
+// More bytes than the longest good card has, 4,948.
+const MOST_BYTES: usize = 8192;
+
+fn run_card(path: &[u8]) {
+    print_title(path);
+    let file = os::open_read(path);
+    if file < 0 {
+        os::fail(path);
+        return;
+    }
+    let mut card = [0u8; MOST_BYTES];
+    let count = io::read_full(file, &mut card);
+    libc::close(file);
+    print_card(&card[..count]);
+}
+
+// Document 001, design example 1.
+fn run_double_tee() {
+    run_card(b"double_tee.card");
+    run_card(b"double_tee_fpy_230.card");
+    run_card(b"double_tee_after_transfer.card");
+}
+
+// Document 001, design example 3.
+fn run_slab() {
+    run_card(b"slab.card");
+    run_card(b"slab_as_printed.card");
+    run_card(b"slab_cured_seven_days.card");
+    run_card(b"slab_shrinkage.card");
+    run_card(b"slab_fpy_235.card");
+    run_card(b"slab_friction.card");
+}
+
+// Document 002, example 1: the tendon from its jack to each point in turn.
+fn run_box_girder() {
+    run_card(b"box_girder_b.card");
+    run_card(b"box_girder_c.card");
+    run_card(b"box_girder_d.card");
+    run_card(b"box_girder_e.card");
+    run_card(b"box_girder_f.card");
+    run_card(b"box_girder_g.card");
+}
+
+pub fn run_cards() {
+    run_double_tee();
+    run_slab();
+    run_box_girder();
+}
