@@ -1,5 +1,5 @@
--- The loops over a host's numbers, a turn at a time, over plain lists. Writing: the buffer begins with the bytes of the numbers so far,
--- eight for each. Reading: the doubles so far stand for the list's first numbers. Assumes nothing.
+-- The loops over a host's numbers, a turn at a time, over plain lists. Writing: the buffer begins with the bytes of the numbers
+-- so far, eight for each. Reading: the doubles so far stand for the list's first numbers. Assumes nothing.
 use mathlib.Core.Path.{_≡_, refl, sym, ap, _∙_}
 use mathlib.Core.List.{List, [], _∷_, _++_, map, map-append, append-assoc, append-nil}
 use Prim.Native.Nat.{ℕ, zero, suc, _+_, _-_, _*_, _≤_, _<_}
@@ -31,7 +31,9 @@ bytes-behind : (numbers : List ℕ) (number : ℕ)
     → bytesOfNumbers (numbers ++ (number ∷ [])) ≡ bytesOfNumbers numbers ++ bytesOf bytesPerNumber number
 unfolding bytesOfNumbers
 bytes-behind [] number = simp append-nil
-bytes-behind (first ∷ numbers) number = rw (bytes-behind numbers number) (sym (append-assoc (bytesOf bytesPerNumber first) (bytesOfNumbers numbers) (bytesOf bytesPerNumber number)))
+bytes-behind (first ∷ numbers) number =
+    rw (bytes-behind numbers number)
+    (sym (append-assoc (bytesOf bytesPerNumber first) (bytesOfNumbers numbers) (bytesOf bytesPerNumber number)))
 
 pub record Stored (numbers before buffer : List ℕ) (done : ℕ) : Type 0 where
   pub within : done ≤ length numbers
@@ -56,7 +58,8 @@ module _ (numbers before buffer : List ℕ) (done : ℕ) (room : bytesPerNumber 
       let same = stored .same in
       let front = bytesOfNumbers (take done numbers) in
       let front-is : length front ≡ at =
-      bytes-of-numbers-length (take done numbers) ∙ ap (λ (n : ℕ). bytesPerNumber * n) (length-take-le done numbers (omega arith)) in
+      bytes-of-numbers-length (take done numbers)
+      ∙ ap (λ (n : ℕ). bytesPerNumber * n) (length-take-le done numbers (omega arith)) in
       let row-is : length row ≡ bytesPerNumber = bytes-length bytesPerNumber (getD numbers done 0) in
       let left-is : length left ≡ length buffer - at = ap length (lent at buffer) ∙ length-drop at buffer in
       let part-is : part ≡ over row left =

@@ -37,14 +37,16 @@ scaled m u d ticks k e =
     mul-right-comm (m * u) k 1024 ∙ ap (λ (n : ℕ). n * k) e ∙ mul-right-comm ticks d k
     ∙ ap (λ (n : ℕ). n * k * d) (sym (mul-one ticks))
 
-pub same-bits : (x : Float) (ticks : ℕ) → HasValue x false ticks ticksPerUnit → toBits binary64 x ≡ toBits binary64 (doubleOf ticks)
+pub same-bits : (x : Float) (ticks : ℕ) → HasValue x false ticks ticksPerUnit
+    → toBits binary64 x ≡ toBits binary64 (doubleOf ticks)
 unfolding toBits
 same-bits nan ticks v = absurd v
 same-bits (inf s) ticks v = absurd v
 same-bits (fin s m e) ticks v =
     rw (
       v .0,
-      div-same (m * up e * 2 ^ 1074) (down e) (ticks * 1 * 2 ^ 1074) 1024 (down-pos e) (lit< tt) (scaled m (up e) (down e) ticks (2 ^ 1074) (v .1)),
+      div-same (m * up e * 2 ^ 1074) (down e) (ticks * 1 * 2 ^ 1074) 1024 (down-pos e) (lit< tt)
+          (scaled m (up e) (down e) ticks (2 ^ 1074) (v .1)),
     )
 
 -- a double that has a value is no NaN

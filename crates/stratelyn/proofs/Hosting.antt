@@ -1,4 +1,5 @@
--- What a host gets of a result: a refusal writes no row, and an accepted run's double has the bits that its value has. Assumes nothing.
+-- What a host gets of a result: a refusal writes no row, and an accepted run's double has the bits that its value has.
+-- Assumes nothing.
 use mathlib.Core.Path.{_≡_, refl, sym, ap}
 use mathlib.Core.Bool.{not}
 use mathlib.Core.List.{List}

@@ -1,5 +1,6 @@
--- What a list gives is what its doubles give with infinity for each NaN, and what its first 345 doubles give: both readings of a double
--- refuse the two alike, and a list of more doubles than a list can have fields is refused with any length. Assumes nothing.
+-- What a list gives is what its doubles give with infinity for each NaN, and what its first 345 doubles give: both readings of
+-- a double refuse the two alike, and a list of more doubles than a list can have fields is refused with any length.
+-- Assumes nothing.
 use mathlib.Core.Path.{_≡_, refl, sym, ap, _∙_}
 use mathlib.Core.Bool.{Bool, true, false, false≢true, _||_, cond}
 use mathlib.Core.List.{List, [], _∷_, _++_, map}
@@ -20,7 +21,8 @@ use Rattle.ticks.proofs.Laws.{refused}
 use Rattle.fields.specs.declared.refusal.Reading.{Reading}
 use Rattle.fields.specs.declared.refusal.Reading.the-variants.{Fields, Not}
 use Rattle.fields.specs.declared.refusal.Refusal.the-variants.{Shape, Ranges}
-use Rattle.fields.specs.Layout.{segmentsField, agesField, mostSegments, leastAges, mostAges, agesOutOfRange, headFields, mostFields, fieldsIn}
+use Rattle.fields.specs.Layout.{segmentsField, agesField, mostSegments, leastAges, mostAges, agesOutOfRange}
+use Rattle.fields.specs.Layout.{headFields, mostFields, fieldsIn}
 use Rattle.fields.specs.Amounts.{refused as notRead}
 use Rattle.fields.proofs.Accepted.{Accepted}
 use Rattle.fields.proofs.ListLaws.{accepted-list}
@@ -128,11 +130,13 @@ module _ (list : List Float) (long : mostFields < length list) where
       by (Of s) ages = of-segments s ages (ltb mostSegments s) refl
 
 -- such a list has no fields
-none-read : (segments ages : Amount) (list other : List Float) → withCounts (tooLong segments ages) list ≡ withCounts (tooLong segments ages) other
+none-read : (segments ages : Amount) (list other : List Float)
+    → withCounts (tooLong segments ages) list ≡ withCounts (tooLong segments ages) other
 none-read Refused ages list other = refl
 none-read (Of s) ages list other = of-segments (ltb mostSegments s) ages
   where
-    of-ages : (b : Bool) → withCounts (cond b (Not (Ranges agesField)) (Not (Shape 0))) list ≡ withCounts (cond b (Not (Ranges agesField)) (Not (Shape 0))) other
+    of-ages : (b : Bool) → withCounts (cond b (Not (Ranges agesField)) (Not (Shape 0))) list
+        ≡ withCounts (cond b (Not (Ranges agesField)) (Not (Shape 0))) other
     of-ages true = refl
     of-ages false = refl
 
@@ -173,7 +177,8 @@ numbers-first f (suc most) zero list = rw (zero-min (suc most))
 numbers-first f (suc most) (suc count) list = rw (suc-min-suc count most, numbers-first f most count (drop bytesPerNumber list))
 
 same-list : (count : ℕ) (list : List ℕ)
-    → listOutcome (map standsFor (numbersFrom (min count mostDoubles) list)) ≡ listOutcome (map (ofBits binary64) (numbersFrom count list))
+    → listOutcome (map standsFor (numbersFrom (min count mostDoubles) list))
+    ≡ listOutcome (map (ofBits binary64) (numbersFrom count list))
 same-list count list =
     ap listOutcome (numbers-first standsFor mostDoubles count list)
     ∙ first-doubles (map standsFor (numbersFrom count list))

@@ -21,7 +21,8 @@ pub behind : (front bytes old buffer part : List ℕ) (at : ℕ) → length fron
     → putMid at (length buffer - at) buffer part ≡ over (front ++ bytes) old
 behind front bytes old buffer part at size is part-is =
     let rest = length buffer - at in
-    let nothing : drop rest (drop at buffer) ≡ [] = drop-of-length-le (drop at buffer) {i = rest} (simp length-drop (omega arith)) in
+    let nothing : drop rest (drop at buffer) ≡ [] =
+    drop-of-length-le (drop at buffer) {i = rest} (simp length-drop (omega arith)) in
     let before : take at buffer ≡ front = ap (take at) is ∙ take-at front (drop (length front) old) at size in
     let after : drop at buffer ≡ drop (length front) old = ap (drop at) is ∙ drop-at front (drop (length front) old) at size in
     rw (nothing, append-nil part, before, part-is, lent at buffer, after, drop-drop, length-append, append-assoc)

@@ -1,5 +1,5 @@
--- The rows of an accepted run: four numbers for each age, for which the report has room; so that a room above 256 numbers is as good as
--- one of 256. Assumes nothing.
+-- The rows of an accepted run: four numbers for each age, for which the report has room; so that a room above 256 numbers is as
+-- good as one of 256. Assumes nothing.
 use mathlib.Core.Path.{_≡_, refl, sym, ap, _∙_}
 use mathlib.Core.Bool.{Bool, true, false}
 use mathlib.Core.List.{List, [], _∷_, _++_, append-assoc}
@@ -28,7 +28,8 @@ use Rattle.losses.specs.declared.Answer.{Answer}
 use Rattle.losses.specs.BeforeAges.{begunOf}
 use Rattle.losses.specs.Stresses.{after}
 use Rattle.losses.specs.Ages.{Start, Aged, agedFrom, onward, behind, rowOf, nextStart, lossesIn}
-use Rattle.losses.specs.Run.{Result, reported, refused, startOf, resultOfAges, resultOfBegun, memberResult, resultOfChecked, resultOfReading, reportAfter, Ran}
+use Rattle.losses.specs.Run.{Result, reported, refused, startOf, resultOfAges, resultOfBegun, memberResult, resultOfChecked}
+use Rattle.losses.specs.Run.{resultOfReading, reportAfter, Ran}
 use Rattle.stratelyn.specs.Parts.{mostNumbers, Front, Rowed}
 
 -- ---- four numbers for each age
@@ -59,12 +60,14 @@ module _ (m : Member) where
       by Gone e others = absurd (let never : _≡_ {A = ℕ} 0 1 = cc in omega arith)
       by (Left stress) e others = let later = others stress e in omega arith
 
-  member-rows : (ages : List Age) (before : BeforeAges) (rows : List ℕ) (last : ℕ) → memberResult m ages ≡ reported before rows last
+  member-rows : (ages : List Age) (before : BeforeAges) (rows : List ℕ) (last : ℕ)
+      → memberResult m ages ≡ reported before rows last
       → length rows ≡ perRow * length ages
   unfolding memberResult
   member-rows ages before rows last e = begun (begunOf m) e
     where
-      aged : (of : Aged) (b : BeforeAges) (stress : Stress) → of .stress ≡ stress → resultOfAges b of stress ≡ reported before rows last
+      aged : (of : Aged) (b : BeforeAges) (stress : Stress) → of .stress ≡ stress
+          → resultOfAges b of stress ≡ reported before rows last
           → (of .stress ≡ Left last) × (of .rows ≡ rows)
       aged of b Gone s e = absurd (let never : _≡_ {A = ℕ} 0 1 = cc in omega arith)
       aged of b (Left stress) s e = (cc, cc)

@@ -1,5 +1,5 @@
--- From what a reader gives to what an entry promises: zeros behind the fields that were read change nothing, and every result is close,
--- whether or not a host is told of it. Assumes nothing.
+-- From what a reader gives to what an entry promises: zeros behind the fields that were read change nothing, and every result is
+-- close, whether or not a host is told of it. Assumes nothing.
 use mathlib.Core.Path.{_≡_, refl, sym}
 use mathlib.Core.List.{List}
 use Prim.Native.Nat.{ℕ, _≤_, _<_}
@@ -26,7 +26,8 @@ answerOf : Result → Answer
 answerOf (reported before rows last) = AcceptedRun (record { before = before; last = doubleOf last })
 answerOf (refused refusal) = RefusedRun refusal
 
-answers : (result : Result) (report scratch : List ℕ) → Ran result (answerOf result) (reportAfter result report) report scratch scratch
+answers : (result : Result) (report scratch : List ℕ)
+    → Ran result (answerOf result) (reportAfter result report) report scratch scratch
 unfolding answerOf
 answers (reported before rows last) report scratch = record {
   answered = record { numbers = refl; double = (refl, rw (mul-one last)) };

@@ -25,8 +25,8 @@ returnedOf (refused refusal) = number refusal
 abbrev pub doubleOf : ℕ → Float
 doubleOf ticks = fin false ticks (negsuc 9)
 
--- "A reply slice takes place (0 if accepted), five losses, stress before the ages and last stress as a double, on a refusal the place
--- and seven zeros"
+-- "A reply slice takes place (0 if accepted), five losses, stress before the ages and last stress as a double, on a refusal the
+-- place and seven zeros"
 abbrev pub acceptance : BeforeAges → ℕ → List ℕ
 acceptance before last =
     0 ∷ before .friction ∷ before .slip ∷ before .deflector ∷ before .«early_relaxation» ∷ before .shortening ∷ before .stress

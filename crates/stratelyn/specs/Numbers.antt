@@ -1,5 +1,5 @@
--- Numbers in a host's bytes: document 01, "There a number of a list, report, scratch or reply is eight bytes, lowest first, a double by
--- its bits." Assumes nothing.
+-- Numbers in a host's bytes: document 01, "There a number of a list, report, scratch or reply is eight bytes, lowest first,
+-- a double by its bits." Assumes nothing.
 use Prim.Native.Nat.{ℕ, zero, suc, _/_, _%_}
 use mathlib.Core.Bool.{cond}
 use mathlib.Core.List.{List, [], _∷_, _++_, map}

@@ -68,8 +68,8 @@ fn run_rows(
     rows: &mut [u64],
 ) -> Answer
     requires { ⌜ Readable segments ages (now fields) × (mostNumbers ≤ length (now rows)) ⌝ }
-    ensures { λ r. ⌜ Rowed (resultOfReading (Reading.Fields segments ages) (now (fields .entry)) (room «report_bytes») (room «scratch_bytes»))
-        ages (room «report_bytes») r (now (rows .exit)) ⌝ }
+    ensures { λ r. ⌜ Rowed (resultOfReading (Reading.Fields segments ages) (now (fields .entry)) (room «report_bytes»)
+        (room «scratch_bytes»)) ages (room «report_bytes») r (now (rows .exit)) ⌝ }
 {
     let mut scratch = [0u64; MOST_NUMBERS];
     let report_room = numbers::room_up_to(MOST_NUMBERS, report_bytes);
@@ -93,8 +93,9 @@ fn serve_fields(
     reply: &mut [u8],
 ) -> u64
     requires { ⌜ (replyBytes ≤ length (now reply)) × Readable segments ages (now fields) ⌝ }
-    ensures { λ r. ⌜ Hosted (resultOfReading (Reading.Fields segments ages) (now (fields .entry)) (room (length (now (report .entry))))
-        (room «scratch_bytes»)) r (now (report .exit)) (now (report .entry)) (now (reply .exit)) (now (reply .entry)) ⌝ }
+    ensures { λ r. ⌜ Hosted (resultOfReading (Reading.Fields segments ages) (now (fields .entry))
+        (room (length (now (report .entry)))) (room «scratch_bytes»))
+        r (now (report .exit)) (now (report .entry)) (now (reply .exit)) (now (reply .entry)) ⌝ }
 {
     let mut rows = [0u64; MOST_NUMBERS];
     match run_rows(
@@ -123,8 +124,8 @@ pub fn serve(
     reply: &mut [u8],
 ) -> u64
     requires { ⌜ (replyBytes ≤ length (now reply)) × ReadableIf reading (now fields) ⌝ }
-    ensures { λ r. ⌜ Hosted (resultOfReading reading (now (fields .entry)) (room (length (now (report .entry)))) (room «scratch_bytes»))
-        r (now (report .exit)) (now (report .entry)) (now (reply .exit)) (now (reply .entry)) ⌝ }
+    ensures { λ r. ⌜ Hosted (resultOfReading reading (now (fields .entry)) (room (length (now (report .entry))))
+        (room «scratch_bytes»)) r (now (report .exit)) (now (report .entry)) (now (reply .exit)) (now (reply .entry)) ⌝ }
 {
     match reading {
         Reading::Not(refusal) => refuse(refusal, reply),

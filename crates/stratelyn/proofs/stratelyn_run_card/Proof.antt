@@ -14,7 +14,8 @@ read-card-requires c κs = search needs
 serve-requires : tie.Need-serve-requires
 serve-requires c κs =
     let read = c .before .before .before in
-    (c .before .before .before .before .before .if1 .left, readable-if _ (card-accepted _) _ _ (read .read-card .ensures .0) (read .read-card .ensures .1))
+    let given = read .read-card .ensures in
+    (read .before .before .if1 .left, readable-if _ (card-accepted _) _ _ (given .0) (given .1))
 
 same-length : tie.Need-same-length
 same-length c = search needs
@@ -26,7 +27,8 @@ returns-2 : tie.Need-returns-2
 returns-2 c =
     let serving = c .before .before .before .before in
     let read = serving .before .before .before .before in
-    served _ (card-accepted _) _ _ (read .read-card .ensures .0) (read .read-card .ensures .1) _ _ _ (read .before .before .if1 .left) (serving .serve .ensures)
+    let given = read .read-card .ensures in
+    served _ (card-accepted _) _ _ (given .0) (given .1) _ _ _ (read .before .before .if1 .left) (serving .serve .ensures)
 
 pub stratelyn-run-card-spec : {M : Type 1} → statement M
 stratelyn-run-card-spec =

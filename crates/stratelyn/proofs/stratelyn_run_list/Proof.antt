@@ -14,7 +14,8 @@ read-list-requires c κs = search needs
 serve-requires : tie.Need-serve-requires
 serve-requires c κs =
     let read = c .before .before .before in
-    (read .before .before .if1 .left, readable-if _ (bytes-accepted _) _ _ (read .read-list .ensures .0) (read .read-list .ensures .1))
+    let given = read .read-list .ensures in
+    (read .before .before .if1 .left, readable-if _ (bytes-accepted _) _ _ (given .0) (given .1))
 
 same-length : tie.Need-same-length
 same-length c = search needs
@@ -26,8 +27,8 @@ returns-2 : tie.Need-returns-2
 returns-2 c =
     let serving = c .before .before .before .before in
     let read = serving .before .before .before .before in
-    served _ (bytes-accepted _) _ _ (read .read-list .ensures .0) (read .read-list .ensures .1) _ _ _
-    (read .before .before .if1 .left) (serving .serve .ensures)
+    let given = read .read-list .ensures in
+    served _ (bytes-accepted _) _ _ (given .0) (given .1) _ _ _ (read .before .before .if1 .left) (serving .serve .ensures)
 
 pub stratelyn-run-list-spec : {M : Type 1} → statement M
 stratelyn-run-list-spec =

@@ -1,4 +1,5 @@
--- A pattern above infinity's, but for the sign, is a NaN's; every other is the bits of the double that is made of it. Assumes nothing.
+-- A pattern above infinity's, but for the sign, is a NaN's; every other is the bits of the double that is made of it.
+-- Assumes nothing.
 use lib.Dec.{lit≤}
 use lib.Ieee.{ofBits}
 use Rattle.stratelyn.proofs.Doubles.{above, below, no-nan}

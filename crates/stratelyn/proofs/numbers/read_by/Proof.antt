@@ -46,7 +46,8 @@ returns c =
     let counted = read .before .before in
     let start = counted .before .before .before in
     let same =
-    read-outcome (now (start .args .list)) _ _ (counted .room-up-to .ensures) (start .pre) _ (read .read-doubles .kept .1 .0) (read .read-doubles .ensures) in (
+    read-outcome (now (start .args .list)) _ _ (counted .room-up-to .ensures) (start .pre) _
+    (read .read-doubles .kept .1 .0) (read .read-doubles .ensures) in (
       c .read-list .ensures .0 ∙ ap (λ (o : Outcome). o .reading) same,
       c .read-list .ensures .1 ∙ ap (λ (o : Outcome). over (o .numbers) (now (start .args .fields))) same,
     )

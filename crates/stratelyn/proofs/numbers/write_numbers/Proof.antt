@@ -1,4 +1,5 @@
--- The buffer begins with the bytes of the numbers so far, and a turn writes eight bytes more into the part behind them. Assumes nothing.
+-- The buffer begins with the bytes of the numbers so far, and a turn writes eight bytes more into the part behind
+-- them. Assumes nothing.
 use Prim.Native.Nat.{_-_}
 use lib.ListN.{length}
 use borrow.Author.Needs.{needs}
@@ -46,7 +47,8 @@ loop-less c = search needs
 loop-again : tie.Need-loop-again Inv-loop μ-loop
 loop-again c =
     let turn = c .before .before .before .before .before .before in
-    stored-more _ _ _ _ (turn .before .before .before .pre) (turn .loop .inv) _ (omega arith) (c .before .before .write-number .ensures)
+    stored-more _ _ _ _ (turn .before .before .before .pre) (turn .loop .inv) _ (omega arith)
+    (c .before .before .write-number .ensures)
 
 same-length : tie.Need-same-length Inv-loop μ-loop
 same-length c = c .before .loop .inv .same

@@ -41,7 +41,8 @@ returns c =
     let rows-fit = room-within _ (reached .room-up-to .ensures) (start .pre .1) in
     let scratch-fit = room-within _ (lent .before .room-up-to2 .ensures) (lit≤ tt) in
     rowed _ _ _ _ _ (start .pre .0 .ages-most) _ _ _ _ _
-    (length-take-le _ _ rows-fit ∙ reached .room-up-to .ensures) (length-take-le _ _ scratch-fit ∙ lent .before .room-up-to2 .ensures)
+    (length-take-le _ _ rows-fit ∙ reached .room-up-to .ensures)
+    (length-take-le _ _ scratch-fit ∙ lent .before .room-up-to2 .ensures)
     (ran .run-fields .ensures)
 
 pub run-rows-spec : {M : Type 1} → statement M

@@ -1,5 +1,5 @@
--- A refusal leaves the report; an accepted run's rows are the first numbers of the array, four for each age, and the report has room
--- for them. Assumes nothing.
+-- A refusal leaves the report; an accepted run's rows are the first numbers of the array, four for each age, and the report has
+-- room for them. Assumes nothing.
 use mathlib.Core.Path.{sym}
 use mathlib.Core.List.{List}
 use Prim.Native.Nat.{ℕ, _*_, _≤_}
@@ -30,7 +30,8 @@ rows ran = ran .run-rows .last .1 .1 .1 .1 .1 .0
 
 rowed : (c : tie.After-known-told2) → let ran = c .before .before .before .before in
     let start = ran .before .before .before .before in
-    Rowed (result start) (start .args .ages) (room (length (now (start .args .report)))) (Accepted (c .before .given .given .0 .0)) (rows ran)
+    Rowed (result start) (start .args .ages) (room (length (now (start .args .report))))
+    (Accepted (c .before .given .given .0 .0)) (rows ran)
 rowed c = rw (c .before .given .given .1) at (c .before .before .before .before .run-rows .ensures)
 
 count-within : (c : tie.After-known-told2) → let ran = c .before .before .before .before in
