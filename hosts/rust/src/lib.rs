@@ -16,6 +16,11 @@
 
 use std::fmt;
 
+/// The integrators' page: its Rust is a doc test.
+#[cfg(doctest)]
+#[doc = include_str!("../../../docs/INTEGRATION.md")]
+mod integration {}
+
 mod core {
     extern "C" {
         pub fn stratelyn_run_card(
