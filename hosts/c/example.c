@@ -3,18 +3,8 @@
 #include <stdio.h>
 #include <string.h>
 
+#include "sample.h"
 #include "stratelyn.h"
-
-#define AGES 3
-
-static const char card[] =
-    "             2             1        240000        120000             0             0        102400\n"
-    "             2             1      28000000       3500000       4000000          3072\n"
-    "        131072       1048576             0          1024             0\n"
-    "            24            24             0             0             0             3\n"
-    "           744             0\n"
-    "          8784             0\n"
-    "        438000             0\n";
 
 static const double list[] = {2,   1,    240e3, 120e3, 0,   0,  100, 2, 1, 28e6, 3.5e6, 4e6,  3, 128,    1024,
                               0,   1,    0,     24,    24,  0,  0,   0, 3, 744,  0,     8784, 0, 438000, 0};

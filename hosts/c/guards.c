@@ -4,22 +4,13 @@
 #include <stdlib.h>
 #include <string.h>
 
+#include "sample.h"
 #include "stratelyn.h"
 
 #define GUARD 32
 #define FILL 0xA5
-#define AGES 3
 #define DUE (AGES * STRATELYN_BYTES_PER_AGE)
 #define MOST (DUE + STRATELYN_BYTES_PER_AGE)
-
-static const char card[] =
-    "             2             1        240000        120000             0             0        102400\n"
-    "             2             1      28000000       3500000       4000000          3072\n"
-    "        131072       1048576             0          1024             0\n"
-    "            24            24             0             0             0             3\n"
-    "           744             0\n"
-    "          8784             0\n"
-    "        438000             0\n";
 
 struct guarded {
   uint8_t *all, *bytes;

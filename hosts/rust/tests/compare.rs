@@ -3,7 +3,7 @@
 
 mod paper;
 
-use paper::{read_card, read_list, Paper, Refusal, Run};
+use paper::{in_ticks, read_card, read_list, Paper, Refusal, Run};
 
 const CASES: usize = 200_000;
 
@@ -148,13 +148,7 @@ fn list_bits(r: &mut Random, f: &[u64]) -> Vec<u64> {
         .enumerate()
         .map(|(i, &v)| {
             let field = i + 1;
-            let in_ticks = match field {
-                6 | 7 | 13..=18 => true,
-                1..=24 => false,
-                _ if field < 25 + 3 * s => (field - 25) % 3 != 0,
-                _ => (field - 25 - 3 * s) % 2 == 1,
-            };
-            let x = if in_ticks { (v as f64 + if r.one_in(2) { 0.25 } else { 0.0 }) / 1024.0 } else { v as f64 };
+            let x = if in_ticks(field, s) { (v as f64 + if r.one_in(2) { 0.25 } else { 0.0 }) / 1024.0 } else { v as f64 };
             x.to_bits()
         })
         .collect();

@@ -159,6 +159,16 @@ fn double(bits: u64, in_ticks: bool) -> Option<u64> {
     if x.fract() == 0.0 { Some(x as u64) } else { None }
 }
 
+/// Whether a field of a member with `s` segments is kept in ticks, or is whole.
+pub fn in_ticks(field: usize, s: usize) -> bool {
+    match field {
+        6 | 7 | 13..=18 => true,
+        1..=24 => false,
+        _ if field < 25 + 3 * s => (field - 25) % 3 != 0,
+        _ => (field - 25 - 3 * s) % 2 == 1,
+    }
+}
+
 pub fn read_list(list: &[u64]) -> Result<(Vec<u64>, usize, usize), Refusal> {
     if list.len() < 24 {
         return Err((8, 0));
@@ -178,13 +188,7 @@ pub fn read_list(list: &[u64]) -> Result<(Vec<u64>, usize, usize), Refusal> {
     let mut fields = Vec::new();
     for (i, &bits) in list.iter().enumerate() {
         let field = i + 1;
-        let in_ticks = match field {
-            6 | 7 | 13..=18 => true,
-            1..=24 => false,
-            _ if field < 25 + 3 * s => (field - 25) % 3 != 0,
-            _ => (field - 25 - 3 * s) % 2 == 1,
-        };
-        fields.push(double(bits, in_ticks).ok_or((9, field as u64))?);
+        fields.push(double(bits, in_ticks(field, s)).ok_or((9, field as u64))?);
     }
     Ok((fields, s, n))
 }
