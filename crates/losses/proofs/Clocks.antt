@@ -2,16 +2,16 @@
 use Prim.Native.Nat.{ℕ, _≤_}
 use Rattle.logarithm.specs.Logarithm.{logarithm, lastThreshold}
 use Rattle.logarithm.proofs.Largest.{no-more}
-use Rattle.coefficient.specs.declared.clocks.MemberHours.{MemberHours}
 use Rattle.coefficient.proofs.Laws.{creep-most, shrinkage-most}
-use Rattle.losses.specs.Intervals.{doneAt, DoneBounded}
+use Rattle.member.specs.declared.Member.{Member}
+use Rattle.losses.specs.Intervals.{endAt, EndBounded}
 
 pub logarithm-most : (hour : ℕ) → logarithm hour ≤ lastThreshold
 unfolding logarithm
 logarithm-most hour = no-more lastThreshold hour
 
-pub done-bounded : (hours : MemberHours) (hour : ℕ) → DoneBounded (doneAt hours hour)
-done-bounded hours hour = record {
+pub end-bounded : (m : Member) (moments hour : ℕ) → EndBounded (endAt m moments hour)
+end-bounded m moments hour = record {
   creep-fits = creep-most _ _;
   shrinkage-fits = shrinkage-most _ _;
   logarithm-fits = logarithm-most _;

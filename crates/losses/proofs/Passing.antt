@@ -3,46 +3,41 @@ use mathlib.Core.Path.{_≡_}
 use Prim.Native.Nat.{ℕ, _-_, _^_, _≤_, _<_}
 use native.Mathlib.Omega.{arith}
 use Rattle.member.specs.declared.Member.{Member}
+use Rattle.steps.specs.Steps.{concreteStress}
 use Rattle.steps.proofs.Laws.{concrete-most, creep-most, shrinkage-most, relaxation-most}
 use Rattle.losses.specs.declared.Stress.the-variants.{Left, Gone}
-use Rattle.losses.specs.declared.ages.Done.{Done}
-use Rattle.losses.specs.declared.ages.Interval.{Interval}
+use Rattle.losses.specs.declared.ends.End.{End}
 use Rattle.losses.specs.declared.ages.Losses.{Losses}
-use Rattle.losses.specs.declared.ages.Passed.the-variants.{To, Gone as NonePassed}
+use Rattle.losses.specs.declared.ages.Passed.the-variants.{By, Gone as NonePassed}
 use Rattle.losses.specs.Stresses.{after}
 use Rattle.losses.specs.Bounds.{Bounded}
-use Rattle.losses.specs.BeforeAges.{momentStressOf, concreteStressOf}
-use Rattle.losses.specs.Intervals.{lossesBy, together, nextInterval, passedBy, IntervalBounded, DoneBounded}
+use Rattle.losses.specs.Intervals.{lossesBetween, together, passed, EndBounded}
 
 pub record LossesFit (losses : Losses) : Type 0 where
   pub creep-fits : losses .creep ≤ 2 ^ 59
   pub shrinkage-fits : losses .shrinkage ≤ 2 ^ 59
   pub relaxation-fits : losses .relaxation ≤ 2 ^ 59
 
-module _ (m : Member) (start : Interval) (done : Done) where
-  bounded : Bounded m → IntervalBounded start → DoneBounded done → LossesFit (lossesBy m start done)
-  bounded b s d =
-      let c = concreteStressOf m (start .moments) (start .stress) in
-      let fits : c < 2 ^ 28 =
-      concrete-most (start .stress) (m .kappa) (momentStressOf m (start .moments)) (s .stress-fits) (b .kappa-fits) in
-      let shrinkage = shrinkage-most (m .shrinkage) (done .shrinkage - start .done .shrinkage) (b .shrinkage-fits) (omega arith) in
+module _ (m : Member) (stress : ℕ) (start end : End) where
+  bounded : Bounded m → stress < 2 ^ 28 → EndBounded end → LossesFit (lossesBetween m stress start end)
+  bounded b s e =
+      let c = concreteStress stress (m .kappa) (start .g) in
+      let fits : c < 2 ^ 28 = concrete-most stress (m .kappa) (start .g) s (b .kappa-fits) in
+      let shrinkage = shrinkage-most (m .shrinkage) (end .shrinkage - start .shrinkage) (b .shrinkage-fits) (omega arith) in
       let relaxation =
-      relaxation-most (m .steel) (m .«ultimate_strength») (start .stress) (done .logarithm - start .done .logarithm)
-      (b .strength) (s .stress-fits) (omega arith) in
+      relaxation-most (m .steel) (m .«ultimate_strength») stress (end .logarithm - start .logarithm) (b .strength) s (omega arith) in
       record {
-        creep-fits = creep-most (m .creep) (done .creep - start .done .creep) c (b .creep-fits) (omega arith) fits;
+        creep-fits = creep-most (m .creep) (end .creep - start .creep) c (b .creep-fits) (omega arith) fits;
         shrinkage-fits = omega arith;
         relaxation-fits = omega arith;
       }
 
-  pub losses-fit : {losses : Losses} → Bounded m × IntervalBounded start × DoneBounded done → losses ≡ lossesBy m start done
-      → LossesFit losses
-  losses-fit p e = rw e (bounded (p .0) (p .1) (p .2))
+  module _ (losses : Losses) (is : losses ≡ lossesBetween m stress start end) where
+    pub losses-fit : Bounded m × (stress < 2 ^ 28) × EndBounded end → LossesFit losses
+    losses-fit p = rw is (bounded (p .0) (p .1) (p .2))
 
-  module _ (moment : ℕ) (losses : Losses) (is : losses ≡ lossesBy m start done) where
-    pub none-passes : after (start .stress) (together losses) ≡ Gone → NonePassed ≡ passedBy m start done moment
+    pub none-passes : after stress (together losses) ≡ Gone → NonePassed ≡ passed m stress start end
     none-passes e = rw (rw is at e)
 
-    pub passes : (stress : ℕ) → after (start .stress) (together losses) ≡ Left stress
-        → To losses (nextInterval start done moment stress) ≡ passedBy m start done moment
-    passes stress e = rw (is, rw is at e)
+    pub passes : (left : ℕ) → after stress (together losses) ≡ Left left → By losses left ≡ passed m stress start end
+    passes left e = rw (is, rw is at e)

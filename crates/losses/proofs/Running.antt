@@ -16,17 +16,15 @@ use Rattle.member.specs.Quantities.{Age, agesFrom, agesOf}
 use Rattle.member.specs.Rows.{perRow}
 use Rattle.losses.specs.declared.Stress.{Stress}
 use Rattle.losses.specs.declared.Stress.the-variants.{Left, Gone}
-use Rattle.losses.specs.declared.ages.Done.{Done}
-use Rattle.losses.specs.declared.ages.Interval.{Interval}
+use Rattle.losses.specs.declared.ends.End.{End}
 use Rattle.losses.specs.declared.ages.Losses.{Losses}
 use Rattle.losses.specs.declared.ages.Passed.{Passed}
-use Rattle.losses.specs.declared.ages.Passed.the-variants.{To, Gone as NonePassed}
+use Rattle.losses.specs.declared.ages.Passed.the-variants.{By, Gone as NonePassed}
 use Rattle.losses.specs.declared.ages.LastStress.the-variants.{Of, GoneAt}
 use Rattle.losses.specs.Stresses.{after}
 use Rattle.losses.specs.Bounds.{Bounded, AgesBounded}
 use Rattle.losses.specs.Ages.{Start, Aged, behind, onward, nextStart, rowOf, lossesIn, agedFrom}
-use Rattle.losses.specs.Intervals.{doneAt, intervalOf, lossesBy, nextInterval, passing, passedBy, rowBy}
-use Rattle.losses.specs.Intervals.{IntervalBounded, RanAges}
+use Rattle.losses.specs.Intervals.{endAt, transferEnd, lossesBetween, passing, passed, rowBy, RanAges}
 use Rattle.losses.specs.Run.{startOf}
 use Rattle.losses.proofs.Leaving.{left-fits}
 use Rattle.losses.proofs.Lists.{length-over, lent, row-behind}
@@ -48,64 +46,55 @@ next-age m fields field number h =
 
 -- ---- the two ways in which passing an interval ends
 
-module _ (losses given : Losses) (start then : Interval) (done : Done) (moment : ℕ) where
-  abbrev passed : Stress → Passed
-  passed left = passing left (λ stress. To losses (nextInterval start done moment stress))
+gone : (losses : Losses) (left : Stress) → passing losses left ≡ NonePassed → left ≡ Gone
+gone losses Gone e = refl
+gone losses (Left stress) e = let never : _≡_ {A = ℕ} 0 1 = cc in absurd (omega arith)
 
-  gone : (left : Stress) → passed left ≡ NonePassed → left ≡ Gone
-  gone Gone e = refl
-  gone (Left stress) e = let never : _≡_ {A = ℕ} 0 1 = cc in absurd (omega arith)
-
-  record Onward (left : Stress) : Type 0 where
-    losses-are : given ≡ losses
-    left-is : left ≡ Left (then .stress)
-    next-is : then ≡ nextInterval start done moment (then .stress)
-
-  went : (left : Stress) → passed left ≡ To given then → Onward left
-  went Gone e = let never : _≡_ {A = ℕ} 0 1 = cc in absurd (omega arith)
-  went (Left stress) e =
-      let next : nextInterval start done moment stress ≡ then = cc in
-      let same : stress ≡ then .stress = ap (λ (i : Interval). i .stress) next in
-      record {
-        losses-are = cc;
-        left-is = ap Left same;
-        next-is = sym next ∙ ap (nextInterval start done moment) same;
-      }
+went : (losses : Losses) (left : Stress) (given : Losses) (then : ℕ) → passing losses left ≡ By given then
+    → (given ≡ losses) × (left ≡ Left then)
+went losses Gone given then e = let never : _≡_ {A = ℕ} 0 1 = cc in absurd (omega arith)
+went losses (Left stress) given then e = let same : stress ≡ then = cc in (cc, ap Left same)
 
 -- ---- what holds as an age begins
 
+-- the end at which an interval starts
+abbrev pub startEnd : Member → Start → End
+startEnd m from = endAt m (from .moments) (from .hour)
+
 -- rows of the ages before it stand in the scratch, and the ages from it on decide the rest
-pub record Progress (m : Member) (fields : List ℕ) (stress : ℕ) (old scratch : List ℕ) (interval : Interval)
+pub record Progress (m : Member) (fields : List ℕ) (first : ℕ) (old scratch : List ℕ) (stress : ℕ) (start : End)
     (field at number : ℕ) : Type 0 where
   pub member : Bounded m
   pub within : number ≤ m .ages
   pub field-is : field ≡ headFields + perSegment * m .segments + perAge * number
   pub at-is : at ≡ perRow * number
-  pub start : Start
-  pub interval-is : interval ≡ intervalOf m start
-  pub bounds : IntervalBounded interval
-  pub ages-bounded : AgesBounded (start .moments) (agesLeft m fields field number)
+  pub from : Start
+  pub stress-is : stress ≡ from .stress
+  pub stress-fits : stress < 2 ^ 28
+  pub start-is : start ≡ startEnd m from
+  pub ages-bounded : AgesBounded (from .moments) (agesLeft m fields field number)
   pub rows : List ℕ
   pub so-far :
-      agedFrom m (startOf m stress) 0 (agesOf (m .segments) (m .ages) fields)
-      ≡ behind rows (agedFrom m start number (agesLeft m fields field number))
+      agedFrom m (startOf m first) 0 (agesOf (m .segments) (m .ages) fields)
+      ≡ behind rows (agedFrom m from number (agesLeft m fields field number))
   pub rows-are : length rows ≡ at
   pub written : scratch ≡ over rows old
   pub room : perRow * m .ages ≤ length old
   pub kept : length scratch ≡ length old
 
-pub begins : (m : Member) (fields : List ℕ) (stress : ℕ) (old : List ℕ) (interval : Interval) → Bounded m
+pub begins : (m : Member) (fields : List ℕ) (stress : ℕ) (old : List ℕ) (start : End) → Bounded m
     → AgesBounded (m .«own_weight_moment») (agesOf (m .segments) (m .ages) fields) → stress < 2 ^ 28
-    → perRow * m .ages ≤ length old → interval ≡ intervalOf m (startOf m stress)
-    → Progress m fields stress old old interval (headFields + perSegment * m .segments) 0 0
-begins m fields stress old interval b a s r e = record {
+    → perRow * m .ages ≤ length old → start ≡ transferEnd m
+    → Progress m fields stress old old stress start (headFields + perSegment * m .segments) 0 0
+begins m fields stress old start b a s r e = record {
   member = b;
   within = omega arith;
   field-is = omega arith;
   at-is = omega arith;
-  start = startOf m stress;
-  interval-is = e;
-  bounds = rw e (record { stress-fits = s; moments-fit = b .own-weight-fits });
+  from = startOf m stress;
+  stress-is = refl;
+  stress-fits = s;
+  start-is = e;
   ages-bounded = rw sub-zero a;
   rows = [];
   so-far = rw sub-zero;
@@ -115,10 +104,13 @@ begins m fields stress old interval b a s r e = record {
   kept = refl;
 }
 
-module _ (m : Member) (fields : List ℕ) (stress : ℕ) (old scratch : List ℕ) (interval : Interval) (field at number : ℕ)
-    (p : Progress m fields stress old scratch interval field at number) where
-  pub ends : m .ages ≤ number
-      → RanAges (agedFrom m (startOf m stress) 0 (agesOf (m .segments) (m .ages) fields)) (m .ages) (Of (interval .stress)) scratch old
+module _ (m : Member) (fields : List ℕ) (first : ℕ) (old scratch : List ℕ) (stress : ℕ) (start : End) (field at number : ℕ)
+    (p : Progress m fields first old scratch stress start field at number) where
+  -- what the ages give
+  abbrev ofAges : Aged
+  ofAges = agedFrom m (startOf m first) 0 (agesOf (m .segments) (m .ages) fields)
+
+  pub ends : m .ages ≤ number → RanAges ofAges (m .ages) (Of stress) scratch old
   unfolding agedFrom agesFrom
   ends h =
       let none : m .ages - number ≡ 0 = omega arith in
@@ -128,18 +120,21 @@ module _ (m : Member) (fields : List ℕ) (stress : ℕ) (old scratch : List ℕ
       let w = p .within in
       let passed : length (p .rows) ≡ perRow * m .ages = omega arith in
       record {
-        result-is = rw (aged, p .interval-is);
-        all-passed = (p .bounds .stress-fits, rw (aged, append-nil) passed);
+        result-is = rw (aged, p .stress-is);
+        all-passed = (p .stress-fits, rw (aged, append-nil) passed);
         written = rw (aged, append-nil) (p .written);
         kept = p .kept;
       }
 
   module _ (more : number < m .ages) where
-    pub age-bounded : AgesBounded (p .start .moments) (ageAt fields field ∷ agesLeft m fields (field + perAge) (number + 1))
+    abbrev age : Age
+    age = ageAt fields field
+
+    pub age-bounded : AgesBounded (p .from .moments) (age ∷ agesLeft m fields (field + perAge) (number + 1))
     age-bounded = rw (next-age m fields field number more) at (p .ages-bounded)
 
-    pub moment-fits : getD fields (field + 1) 0 ≤ 2 ^ 40
-    moment-fits = let most = age-bounded .1 .0 in omega arith
+    pub moments-fit : start .moments + getD fields (field + 1) 0 ≤ 2 ^ 40
+    moments-fit = rw (p .start-is) (age-bounded .1 .0)
 
     pub hour-fits : getD fields field 0 < 2 ^ 32
     hour-fits = let most = age-bounded .0 in omega arith
@@ -151,48 +146,40 @@ module _ (m : Member) (fields : List ℕ) (stress : ℕ) (old scratch : List ℕ
         let k = p .kept in
         rw lent (simp length-drop (omega arith))
 
-    module _ (done : Done) (done-is : done ≡ doneAt (m .hours) (getD fields field 0)) (result : Passed)
-        (result-is : result ≡ passedBy m interval done (getD fields (field + 1) 0)) where
-      abbrev age : Age
-      age = ageAt fields field
+    module _ (end : End) (end-is : end ≡ endAt m (start .moments + getD fields (field + 1) 0) (getD fields field 0))
+        (result : Passed) (result-is : result ≡ passed m stress start end) where
+      -- the interval's end, as the definitions have it
+      abbrev endThen : End
+      endThen = endAt m (p .from .moments + age .moment) (age .hour)
 
-      abbrev from : Start
-      from = p .start
-
-      -- what is done at the age
-      abbrev doneThen : Done
-      doneThen = doneAt (m .hours) (age .hour)
+      end-then : end ≡ endThen
+      end-then = rw (p .start-is) at end-is
 
       abbrev lossesThen : Losses
-      lossesThen = lossesBy m (intervalOf m from) doneThen
-
-      -- the result, of the interval's start as the definitions have it
-      result-from : result ≡ passedBy m (intervalOf m from) doneThen (age .moment)
-      result-from = rw (p .interval-is, done-is) at result-is
+      lossesThen = lossesBetween m (p .from .stress) (startEnd m (p .from)) endThen
 
       abbrev left : Stress
-      left = after (from .stress) (lossesIn m from (age .hour))
+      left = after (p .from .stress) (lossesIn m (p .from) (age .hour))
+
+      result-from : result ≡ passing lossesThen left
+      result-from = rw (p .stress-is, p .start-is, end-then) at result-is
 
       -- the ages from this one on, which is the `count`th
       abbrev agedHere : ℕ → Aged
       agedHere count =
           onward count left
-          (λ then. behind (rowOf m from (age .hour) then)
-          (agedFrom m (nextStart from age then) count (agesLeft m fields (field + perAge) (number + 1))))
+          (λ then. behind (rowOf m (p .from) (age .hour) then)
+          (agedFrom m (nextStart (p .from) age then) count (agesLeft m fields (field + perAge) (number + 1))))
 
-      so-far-with-age : agedFrom m (startOf m stress) 0 (agesOf (m .segments) (m .ages) fields)
-          ≡ behind (p .rows) (agedHere (number + 1))
+      so-far-with-age : ofAges ≡ behind (p .rows) (agedHere (number + 1))
       unfolding agedFrom
       so-far-with-age =
           rw (next-age m fields field number more) at (p .so-far)
           ∙ ap (λ (count : ℕ). behind (p .rows) (agedHere count)) (sym (add-one number))
 
-      pub stops : result ≡ NonePassed
-          → RanAges (agedFrom m (startOf m stress) 0 (agesOf (m .segments) (m .ages) fields)) (m .ages)
-          (GoneAt (number + 1)) scratch old
+      pub stops : result ≡ NonePassed → RanAges ofAges (m .ages) (GoneAt (number + 1)) scratch old
       stops e =
-          let none : left ≡ Gone =
-          gone lossesThen lossesThen (intervalOf m from) interval doneThen (age .moment) left (sym result-from ∙ e) in
+          let none : left ≡ Gone = gone lossesThen left (sym result-from ∙ e) in
           let aged = rw none at so-far-with-age in
           record {
             result-is = rw aged;
@@ -201,49 +188,47 @@ module _ (m : Member) (fields : List ℕ) (stress : ℕ) (old scratch : List ℕ
             kept = p .kept;
           }
 
-      module _ (losses : Losses) (then : Interval) (part : List ℕ) (passes : result ≡ To losses then)
-          (part-is : part ≡ over (rowBy losses (then .stress)) (midOf at (length scratch - at) scratch)) where
-        onwards : Onward lossesThen losses (intervalOf m from) then doneThen (age .moment) left
-        onwards = went lossesThen losses (intervalOf m from) then doneThen (age .moment) left (sym result-from ∙ passes)
+      module _ (losses : Losses) (then : ℕ) (part : List ℕ) (passes : result ≡ By losses then)
+          (part-is : part ≡ over (rowBy losses then) (midOf at (length scratch - at) scratch)) where
+        onwards : (losses ≡ lossesThen) × (left ≡ Left then)
+        onwards = went lossesThen left losses then (sym result-from ∙ passes)
 
-        row-is : rowBy losses (then .stress) ≡ rowOf m from (age .hour) (then .stress)
-        row-is = ap (λ (l : Losses). rowBy l (then .stress)) (onwards .losses-are)
+        row-is : rowBy losses then ≡ rowOf m (p .from) (age .hour) then
+        row-is = ap (λ (l : Losses). rowBy l then) (onwards .0)
 
-        so-far-onward : agedFrom m (startOf m stress) 0 (agesOf (m .segments) (m .ages) fields)
-            ≡ behind (p .rows ++ rowBy losses (then .stress))
-            (agedFrom m (nextStart from age (then .stress)) (number + 1) (agesLeft m fields (field + perAge) (number + 1)))
-        so-far-onward = rw (row-is, append-assoc) (rw (onwards .left-is) at so-far-with-age)
+        so-far-onward : ofAges
+            ≡ behind (p .rows ++ rowBy losses then)
+            (agedFrom m (nextStart (p .from) age then) (number + 1) (agesLeft m fields (field + perAge) (number + 1)))
+        so-far-onward = rw (row-is, append-assoc) (rw (onwards .1) at so-far-with-age)
 
-        scratch-is : putMid at (length scratch - at) scratch part ≡ over (p .rows ++ rowBy losses (then .stress)) old
-        scratch-is =
-            row-behind (p .rows) (rowBy losses (then .stress)) old scratch part at (sym (p .rows-are)) (p .written) part-is
+        scratch-is : putMid at (length scratch - at) scratch part ≡ over (p .rows ++ rowBy losses then) old
+        scratch-is = row-behind (p .rows) (rowBy losses then) old scratch part at (sym (p .rows-are)) (p .written) part-is
 
-        rows-then : length (p .rows ++ rowBy losses (then .stress)) ≡ at + 4
+        rows-then : length (p .rows ++ rowBy losses then) ≡ at + 4
         rows-then = rw length-append (ap (λ (n : ℕ). n + 4) (p .rows-are))
 
-        pub turns : Progress m fields stress old (putMid at (length scratch - at) scratch part) then (field + 2) (at + 4) (number + 1)
+        pub turns : Progress m fields first old (putMid at (length scratch - at) scratch part) then end (field + 2) (at + 4)
+            (number + 1)
         turns =
             let f = p .field-is in
             let a = p .at-is in
             let r = p .room in
             let all = rows-then in
-            let fits : from .stress < 2 ^ 28 = rw (p .interval-is) at (p .bounds .stress-fits) in
+            let fits : p .from .stress < 2 ^ 28 = rw (p .stress-is) at (p .stress-fits) in
             record {
               member = p .member;
               within = omega arith;
               field-is = omega arith;
               at-is = omega arith;
-              start = nextStart from age (then .stress);
-              interval-is = onwards .next-is;
-              bounds = record {
-                stress-fits = left-fits (from .stress) (lossesIn m from (age .hour)) (then .stress) fits (onwards .left-is);
-                moments-fit = omega (arith, ap (λ (i : Interval). i .moments) (onwards .next-is), age-bounded .1 .0);
-              };
+              from = nextStart (p .from) age then;
+              stress-is = refl;
+              stress-fits = left-fits (p .from .stress) (lossesIn m (p .from) (age .hour)) then fits (onwards .1);
+              start-is = end-then;
               ages-bounded = age-bounded .1 .1;
-              rows = p .rows ++ rowBy losses (then .stress);
+              rows = p .rows ++ rowBy losses then;
               so-far = so-far-onward;
               rows-are = rows-then;
               written = scratch-is;
               room = r;
-              kept = rw scratch-is (length-over (p .rows ++ rowBy losses (then .stress)) old (omega arith));
+              kept = rw scratch-is (length-over (p .rows ++ rowBy losses then) old (omega arith));
             }

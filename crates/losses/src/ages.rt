@@ -7,12 +7,12 @@ ghost use Rattle.fields.specs.Amounts.{over};
 ghost use Rattle.member.specs.Quantities.{agesOf};
 ghost use Rattle.losses.specs.Bounds.{Bounded, AgesBounded};
 ghost use Rattle.losses.specs.Ages.{agedFrom};
-ghost use Rattle.losses.specs.Intervals.{doneAt, lossesBy, passedBy, rowBy, IntervalBounded, DoneBounded, RanAges};
+ghost use Rattle.losses.specs.Intervals.{transferEnd, lossesBetween, passed, rowBy, EndBounded, RanAges};
 ghost use Rattle.losses.specs.Run.{startOf};
 use crate::Stress;
 use crate::before;
-use coefficient::clocks::MemberHours;
-use coefficient::clocks::SERVICE_LIFE;
+use crate::ends;
+use crate::ends::End;
 use fields::layout::HEAD_FIELDS;
 use fields::layout::MOST_FIELDS;
 use fields::layout::PER_AGE;
@@ -21,29 +21,15 @@ use logarithm::ENTRIES;
 use member::Member;
 use member::buffers::PER_ROW;
 
-// What is done at an hour: the shares of creep and shrinkage, and relaxation's logarithm.
-pub struct Done {
-    pub creep: u64,
-    pub shrinkage: u64,
-    pub logarithm: u64,
-}
-
-// What an interval begins with.
-pub struct Interval {
-    pub stress: u64,
-    pub moments: u64,
-    pub done: Done,
-}
-
 pub struct Losses {
     pub creep: u64,
     pub shrinkage: u64,
     pub relaxation: u64,
 }
 
-// The losses of an interval and the next one's start; or no stress is left.
+// The losses of an interval and the stress that they leave; or none is left.
 pub enum Passed {
-    To(Losses, Interval),
+    By(Losses, u64),
     Gone,
 }
 
@@ -53,60 +39,37 @@ pub enum LastStress {
     GoneAt(u64),
 }
 
-fn done_at(hours: MemberHours, thresholds: &[u32; ENTRIES], hour: u32) -> Done
-    requires { ⌜ IsTable (now thresholds) ⌝ }
-    ensures { λ r. ⌜ r ≡ doneAt hours hour ⌝ }
+// The losses of an interval, from the stress at its start and from its two ends.
+fn losses_between(m: Member, stress: u64, start: End, end: End) -> Losses
+    requires { ⌜ (Bounded m) × (stress < 2 ^ 28) × (EndBounded end) ⌝ }
+    ensures { λ r. ⌜ r ≡ lossesBetween m stress start end ⌝ }
 {
-    Done {
-        creep: coefficient::creep_share(
-            hours.since_transfer(SERVICE_LIFE),
-            hours.since_transfer(hour),
-        ),
-        shrinkage: coefficient::shrinkage_share(
-            hours.since_curing(SERVICE_LIFE),
-            hours.since_curing(hour),
-        ),
-        logarithm: coefficient::relaxation_logarithm(thresholds, hours.since_tensioning(hour)),
-    }
-}
-
-// The losses of an interval, from its start and from what is done at its end.
-fn losses_by(m: Member, start: Interval, done: Done) -> Losses
-    requires { ⌜ (Bounded m) × (IntervalBounded start) × (DoneBounded done) ⌝ }
-    ensures { λ r. ⌜ r ≡ lossesBy m start done ⌝ }
-{
-    let before = start.done;
     let steel = m.steel;
-    let c = before::concrete_stress(m, start.moments, start.stress);
-    let creep_share = steps::difference(done.creep, before.creep);
-    let shrinkage_share = steps::difference(done.shrinkage, before.shrinkage);
-    let logarithms = steps::difference(done.logarithm, before.logarithm);
+    let c = steps::concrete_stress(stress, m.kappa, start.g);
+    let creep_share = steps::difference(end.creep, start.creep);
+    let shrinkage_share = steps::difference(end.shrinkage, start.shrinkage);
+    let logarithms = steps::difference(end.logarithm, start.logarithm);
+    let creep = steps::creep_loss(m.creep, creep_share, c);
+    let shrinkage = steps::shrinkage_loss(m.shrinkage, shrinkage_share);
+    let relaxation = steps::relaxation_loss(steel, m.ultimate_strength, stress, logarithms);
     Losses {
-        creep: steps::creep_loss(m.creep, creep_share, c),
-        shrinkage: steps::shrinkage_loss(m.shrinkage, shrinkage_share),
-        relaxation: steps::relaxation_loss(steel, m.ultimate_strength, start.stress, logarithms),
+        creep,
+        shrinkage,
+        relaxation,
     }
 }
 
-// All three losses leave the stress together, and the age's moment counts from the next interval on.
-fn passed_by(m: Member, start: Interval, done: Done, moment: u64) -> Passed
-    requires { ⌜ (Bounded m) × (IntervalBounded start) × (DoneBounded done) ⌝ }
-    requires { ⌜ moment ≤ 2 ^ 40 ⌝ }
-    ensures { λ r. ⌜ r ≡ passedBy m start done moment ⌝ }
+// All three losses leave the stress together.
+fn pass(m: Member, stress: u64, start: End, end: End) -> Passed
+    requires { ⌜ (Bounded m) × (stress < 2 ^ 28) × (EndBounded end) ⌝ }
+    ensures { λ r. ⌜ r ≡ passed m stress start end ⌝ }
 {
-    let losses = losses_by(m, start, done);
+    let losses = losses_between(m, stress, start, end);
     let together = losses.creep + losses.shrinkage + losses.relaxation;
-    let Stress::Left(stress) = before::after(start.stress, together) else {
+    let Stress::Left(left) = before::after(stress, together) else {
         return Passed::Gone;
     };
-    Passed::To(
-        losses,
-        Interval {
-            stress,
-            moments: start.moments + moment,
-            done,
-        },
-    )
+    Passed::By(losses, left)
 }
 
 // A row at the front of a part of the scratch.
@@ -120,41 +83,41 @@ fn write_row(part: &mut [u64], losses: Losses, stress: u64)
     part[3] = stress;
 }
 
-// The ages in turn, each with its row in the scratch, until no stress is left.
+// The ages in turn from the stress at transfer on, each with its row in the scratch, until no stress is left. An age's moment counts
+// from its own end on.
 pub fn run_ages(
     m: Member,
     thresholds: &[u32; ENTRIES],
     fields: &[u64; MOST_FIELDS],
+    transfer: End,
     stress: u64,
     scratch: &mut [u64],
 ) -> LastStress
     requires { ⌜ (Bounded m) × (AgesBounded (m .«own_weight_moment») (agesOf (m .segments) (m .ages) (now fields))) ⌝ }
-    requires { ⌜ (IsTable (now thresholds)) × (stress < 2 ^ 28) × (4 * m .ages ≤ length (now scratch)) ⌝ }
+    requires { ⌜ (IsTable (now thresholds)) × (transfer ≡ transferEnd m) ⌝ }
+    requires { ⌜ (stress < 2 ^ 28) × (4 * m .ages ≤ length (now scratch)) ⌝ }
     ensures { λ r. ⌜ RanAges (agedFrom m (startOf m stress) 0 (agesOf (m .segments) (m .ages) (now (fields .entry)))) (m .ages)
         r (now (scratch .exit)) (now (scratch .entry)) ⌝ }
 {
-    let hours = m.hours;
     let ages = m.ages;
-    let mut interval = Interval {
-        stress,
-        moments: m.own_weight_moment,
-        done: done_at(hours, thresholds, hours.transfer),
-    };
+    let mut stress = stress;
+    let mut start = transfer;
     let mut field = HEAD_FIELDS + PER_SEGMENT * (m.segments as usize);
     let mut at = 0usize;
     let mut number = 0u64;
     while number < ages {
         number += 1;
         let hour = fields[field] as u32;
-        let moment = fields[field + 1];
-        let done = done_at(hours, thresholds, hour);
-        let Passed::To(losses, next) = passed_by(m, interval, done, moment) else {
+        let moments = start.moments + fields[field + 1];
+        let end = ends::end_at(m, thresholds, moments, hour);
+        let Passed::By(losses, left) = pass(m, stress, start, end) else {
             return LastStress::GoneAt(number);
         };
-        write_row(&mut scratch[at..], losses, next.stress);
-        interval = next;
+        write_row(&mut scratch[at..], losses, left);
+        stress = left;
+        start = end;
         field += PER_AGE;
         at += PER_ROW;
     }
-    LastStress::Of(interval.stress)
+    LastStress::Of(stress)
 }

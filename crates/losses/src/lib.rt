@@ -10,6 +10,7 @@ ghost use Rattle.losses.specs.Run.{memberResult, resultOfReading, Ran};
 
 pub mod ages;
 pub mod before;
+pub mod ends;
 
 use ages::LastStress;
 use fields::layout::MOST_FIELDS;
@@ -76,10 +77,12 @@ pub fn run_member(
         r (now (report .exit)) (now (report .entry)) (now (scratch .exit)) (now (scratch .entry)) ⌝ }
 {
     let thresholds = logarithm::thresholds();
-    let Begun::Begins(losses) = before::begin(m, &thresholds) else {
+    let hours = m.hours;
+    let transfer = ends::end_at(m, &thresholds, m.own_weight_moment, hours.transfer);
+    let Begun::Begins(losses) = before::begin(m, transfer) else {
         return Answer::Refused(Refusal::Stress(0));
     };
-    match ages::run_ages(m, &thresholds, fields, losses.stress, scratch) {
+    match ages::run_ages(m, &thresholds, fields, transfer, losses.stress, scratch) {
         LastStress::GoneAt(age) => Answer::Refused(Refusal::Stress(age)),
         LastStress::Of(stress) => {
             copy(scratch, PER_ROW * (m.ages as usize), report);

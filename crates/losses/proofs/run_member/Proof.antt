@@ -2,6 +2,7 @@
 use borrow.Author.Needs.{needs}
 use denote.Ref.{now}
 use mathlib.Core.Path.{_≡_, sym, _∙_}
+use native.Mathlib.Omega.{arith}
 use Rattle.losses.proofs.Answering.{last-fits, none-begins, none-left, all-passed}
 use Rattle.losses.proofs.Beginning.{begun-fits}
 use Rattle.losses.proofs.run_member.Statement.{statement}
@@ -10,13 +11,19 @@ use Rattle.losses.specs.BeforeAges.{begunOf}
 use Rattle.losses.specs.declared.Begun.the-variants.{Begins}
 use Rattle.member.specs.Quantities.{agesOf}
 
+-- the start of the run, of which the losses before the ages are told
+abbrev start : tie.After-known-told → tie.Start
+start c = c .before .before .before .before .before .before .before .before .before .before
+
 -- the losses before the ages are the definition's
-begun : (c : tie.After-known-told)
-    → Begins (c .before .losses .given .0 .0) ≡ begunOf (c .before .before .before .before .before .before .before .before .args .m)
+begun : (c : tie.After-known-told) → Begins (c .before .losses .given .0 .0) ≡ begunOf (start c .args .m)
 begun c = sym (c .before .losses .given .1) ∙ c .before .before .before .begin .ensures
 
 thresholds-requires : tie.Need-thresholds-requires
 thresholds-requires c κs = search needs
+
+end-at-requires : tie.Need-end-at-requires
+end-at-requires c κs = search needs
 
 begin-requires : tie.Need-begin-requires
 begin-requires c κs = search needs
@@ -30,16 +37,18 @@ enum-told c = search needs
 returns : tie.Need-returns
 returns c =
     let reached = c .before .before in
-    let args = reached .before .before .before .before .before .args in
+    let args = reached .before .before .before .before .before .before .before .args in
     none-begins (args .m) (agesOf (args .m .segments) (args .m .ages) (now (args .fields))) (now (args .report)) (now (args .scratch))
     (sym (c .enum-told .given .1) ∙ reached .begin .ensures)
 
 run-ages-requires : tie.Need-run-ages-requires
 run-ages-requires c κs =
     let told = c .before .before in
-    let made = told .before .before .before .before .before in
-    let start = made .before .before .before in
-    (start .pre .0, (made .thresholds .ensures, begun-fits (start .args .m) _ (start .pre .0 .0) (begun told), start .pre .1 .1))
+    let pre = start told .pre in
+    let transfer = told .before .before .before .before in
+    let table = transfer .before .before .before in
+    let stress-fits = begun-fits _ _ (pre .0 .0) (begun told) in
+    (pre .0, ((table .thresholds .ensures, transfer .end-at .ensures), (stress-fits, pre .1 .1)))
 
 enum-known-age : tie.Need-enum-known-age
 enum-known-age c = search needs
@@ -48,10 +57,15 @@ enum-known-stress : tie.Need-enum-known-stress
 enum-known-stress c = search needs
 
 mul-copy : tie.Need-mul-copy
-mul-copy c = search needs
+mul-copy c =
+    let ran = c .before .before .before .before .before .before in
+    omega (arith, start (ran .before .before .before) .pre .0 .0 .ages-fit)
 
 copy-requires : tie.Need-copy-requires
-copy-requires c κs = search needs
+copy-requires c κs =
+    let ran = c .before .before .before .before .before .before .before in
+    let begins = start (ran .before .before .before) in
+    omega (arith, begins .pre .1, begins .pre .0 .0 .ages-fit)
 
 cast-double-of-ticks : tie.Need-cast-double-of-ticks
 cast-double-of-ticks c =
@@ -69,7 +83,7 @@ returns-2 : tie.Need-returns-2
 returns-2 c =
     let ran = c .before .before .before .before .before in
     let told = ran .before .before .before in
-    let args = told .before .before .before .before .before .before .before .before .args in
+    let args = start told .args in
     none-left (args .m) (agesOf (args .m .segments) (args .m .ages) (now (args .fields))) (now (args .report)) (now (args .scratch))
     _ (begun told) _ _ (rw (c .before .age .given .1) at (ran .run-ages .ensures))
 
@@ -85,7 +99,7 @@ returns-3 c =
     let ends = copied .before .before .before .before in
     let ran = ends .before .before .before .before in
     let told = ran .before .before .before in
-    let args = told .before .before .before .before .before .before .before .before .args in
+    let args = start told .args in
     all-passed (args .m) (agesOf (args .m .segments) (args .m .ages) (now (args .fields))) (now (args .report)) (now (args .scratch))
     _ (begun told) _ _ _ _ (rw (ends .stress .given .1) at (ran .run-ages .ensures)) (c .double-of-ticks .ensures)
     (copied .copy .ensures)
@@ -95,6 +109,7 @@ run-member-spec =
     tie.close
     (tie.spec
     thresholds-requires
+    end-at-requires
     begin-requires
     enum-known-losses
     enum-told

@@ -1,25 +1,22 @@
 -- The invariant is `Progress`: the rows of the ages before stand in the scratch, and the ages from here on decide the rest. An age
 -- that is passed keeps it; the loop ends with the last age, or where no stress is left. Assumes nothing.
-use Prim.Native.Nat.{_-_}
+use Prim.Native.Nat.{_+_, _-_, _^_, _≤_}
 use borrow.Author.Needs.{needs}
 use denote.Ref.{now}
 use lib.ListN.{getD}
 use native.Mathlib.Omega.{arith}
-use Rattle.losses.proofs.Clocks.{done-bounded}
-use Rattle.losses.proofs.Running.{Progress, begins, ends, moment-fits, hour-fits, room-for-row, stops, turns}
+use Rattle.losses.proofs.Clocks.{end-bounded}
+use Rattle.losses.proofs.Running.{Progress, begins, ends, moments-fit, hour-fits, room-for-row, stops, turns}
 use Rattle.losses.proofs.ages.run_ages.Statement.{statement}
 use Rattle.losses.proofs.ages.run_ages.Tie as tie
 
 abbrev Inv-loop : tie.InvT-loop
-Inv-loop m thresholds fields stress scratch₀ hours ages interval₀ field₀ at₀ number₀ scratch interval field at number =
-    Progress m fields stress scratch₀ scratch interval field at number
+Inv-loop m thresholds fields first scratch₀ ages stress₀ start₀ field₀ at₀ number₀ scratch stress start field at number =
+    Progress m fields first scratch₀ scratch stress start field at number
 
 abbrev μ-loop : tie.MeasureT-loop
-μ-loop m thresholds fields stress scratch₀ hours ages interval₀ field₀ at₀ number₀ scratch interval field at number =
+μ-loop m thresholds fields first scratch₀ ages stress₀ start₀ field₀ at₀ number₀ scratch stress start field at number =
     ages - number
-
-done-at-requires : tie.Need-done-at-requires Inv-loop μ-loop
-done-at-requires c κs = search needs
 
 mul-field : tie.Need-mul-field Inv-loop μ-loop
 mul-field c = search needs
@@ -29,10 +26,10 @@ add-field c = search needs
 
 loop-holds : tie.Need-loop-holds Inv-loop μ-loop
 loop-holds c =
-    let start = c .before .before .before in
+    let start = c .before in
     let args = start .args in
     begins (args .m) (now (args .fields)) (args .stress) (now (args .scratch)) _ (start .pre .0 .0) (start .pre .0 .1)
-    (start .pre .1 .1) (start .pre .1 .2) (rw (c .done-at .ensures))
+    (start .pre .1 .1 .0) (start .pre .1 .1 .1) (start .pre .1 .0 .1)
 
 add-number : tie.Need-add-number Inv-loop μ-loop
 add-number c = search needs
@@ -44,32 +41,40 @@ element-copy-out-hour : tie.Need-element-copy-out-hour Inv-loop μ-loop
 element-copy-out-hour c = search needs
 
 cast-hour : tie.Need-cast-hour Inv-loop μ-loop
-cast-hour c = record { fits = hour-fits _ _ _ _ _ _ _ _ _ (c .before .before .loop .inv) (c .before .loop-test .taken) }
+cast-hour c = record { fits = hour-fits _ _ _ _ _ _ _ _ _ _ (c .before .before .loop .inv) (c .before .loop-test .taken) }
 
-add-moment : tie.Need-add-moment Inv-loop μ-loop
-add-moment c = search needs
+add-moments : tie.Need-add-moments Inv-loop μ-loop
+add-moments c = search needs
 
-mul-moment : tie.Need-mul-moment Inv-loop μ-loop
-mul-moment c = search needs
+mul-moments : tie.Need-mul-moments Inv-loop μ-loop
+mul-moments c = search needs
 
-element-copy-out-moment : tie.Need-element-copy-out-moment Inv-loop μ-loop
-element-copy-out-moment c = search needs
+element-copy-out-moments : tie.Need-element-copy-out-moments Inv-loop μ-loop
+element-copy-out-moments c = search needs
 
-done-at-requires-2 : tie.Need-done-at-requires-2 Inv-loop μ-loop
-done-at-requires-2 c κs = search needs
-
-passed-by-requires : tie.Need-passed-by-requires Inv-loop μ-loop
-passed-by-requires c κs =
+-- the moments at the age, in its turn of the loop
+moments-most : (c : tie.After-struct-known Inv-loop μ-loop)
+    → let turn = c .before .before .before in
+    let args = turn .before .before .before .args in
+    let loop = turn .before .loop in
+    loop .start .moments + getD (now (args .fields)) (loop .field + 1) 0 ≤ 2 ^ 40
+moments-most c =
     let turn = c .before .before .before in
-    let start = turn .before .before .before .before .before in
-    let hour = getD (now (start .args .fields)) (turn .before .loop .field) 0 in (
-      (
-        start .pre .0 .0,
-        turn .before .loop .inv .bounds,
-        rw (c .done-at2 .ensures) (done-bounded (start .args .m .hours) hour),
-      ),
-      moment-fits _ _ _ _ _ _ _ _ _ (turn .before .loop .inv) (turn .loop-test .taken),
-    )
+    moments-fit _ _ _ _ _ _ _ _ _ _ (turn .before .loop .inv) (turn .loop-test .taken)
+
+add-moments-2 : tie.Need-add-moments-2 Inv-loop μ-loop
+add-moments-2 c = omega (arith, moments-most c)
+
+end-at-requires : tie.Need-end-at-requires Inv-loop μ-loop
+end-at-requires c κs =
+    let start = c .before .before .before .before .before .before in
+    (start .pre .0 .0, start .pre .1 .0 .0, moments-most c)
+
+pass-requires : tie.Need-pass-requires Inv-loop μ-loop
+pass-requires c κs =
+    let loop = c .before .before .before .before .before in
+    let start = loop .before .before in
+    (start .pre .0 .0, loop .loop .inv .stress-fits, rw (c .end-at .ensures) (end-bounded (start .args .m) _ _))
 
 enum-known-losses : tie.Need-enum-known-losses Inv-loop μ-loop
 enum-known-losses c = search needs
@@ -78,18 +83,18 @@ enum-told : tie.Need-enum-told Inv-loop μ-loop
 enum-told c = search needs
 
 same-length : tie.Need-same-length Inv-loop μ-loop
-same-length c = c .before .before .before .before .before .before .before .loop .inv .kept
+same-length c = c .before .before .before .before .before .before .before .before .loop .inv .kept
 
 returns : tie.Need-returns Inv-loop μ-loop
 returns c =
-    let reached = c .before .before in
-    let turn = reached .before .before .before .before in
-    stops _ _ _ _ _ _ _ _ _ (turn .before .loop .inv) (turn .loop-test .taken) _ (reached .before .done-at2 .ensures)
-    _ (reached .passed-by .ensures) (c .enum-told .given .1)
+    let passing = c .before .before in
+    let turn = passing .before .before .before .before .before in
+    stops _ _ _ _ _ _ _ _ _ _ (turn .before .loop .inv) (turn .loop-test .taken) _ (passing .before .end-at .ensures)
+    _ (passing .pass .ensures) (c .enum-told .given .1)
 
 mul-write-row : tie.Need-mul-write-row Inv-loop μ-loop
 mul-write-row c =
-    let progress = c .before .before .before .before .before .before .before .before .loop .inv in
+    let progress = c .before .before .before .before .before .before .before .before .before .loop .inv in
     omega arith
 
 sub-write-row : tie.Need-sub-write-row Inv-loop μ-loop
@@ -103,17 +108,17 @@ part-write-row-end c = search needs
 
 write-row-requires : tie.Need-write-row-requires Inv-loop μ-loop
 write-row-requires c κs =
-    let turn = c .before .before .before .before .before .before .before .before in
-    room-for-row _ _ _ _ _ _ _ _ _ (turn .before .loop .inv) (turn .loop-test .taken)
+    let turn = c .before .before .before .before .before .before .before .before .before in
+    room-for-row _ _ _ _ _ _ _ _ _ _ (turn .before .loop .inv) (turn .loop-test .taken)
 
 add-field-2 : tie.Need-add-field-2 Inv-loop μ-loop
 add-field-2 c =
-    let progress = c .before .before .before .before .before .before .before .before .before .before .before .before .loop .inv in
+    let progress = c .before .before .before .before .before .before .before .before .before .before .before .before .before .loop .inv in
     omega arith
 
 add-at : tie.Need-add-at Inv-loop μ-loop
 add-at c =
-    let progress = c .before .before .before .before .before .before .before .before .before .before .before .before .loop .inv in
+    let progress = c .before .before .before .before .before .before .before .before .before .before .before .before .before .loop .inv in
     omega arith
 
 loop-less : tie.Need-loop-less Inv-loop μ-loop
@@ -123,16 +128,16 @@ loop-again : tie.Need-loop-again Inv-loop μ-loop
 loop-again c =
     let written = c .before .before in
     let passes = written .before .before .before in
-    let reached = passes .before .before in
-    let turn = reached .before .before .before .before in
-    turns _ _ _ _ _ _ _ _ _ (turn .before .loop .inv) (turn .loop-test .taken) _ (reached .before .done-at2 .ensures)
-    _ (reached .passed-by .ensures) _ _ _ (passes .losses .given .1) (written .write-row .ensures)
+    let passing = passes .before .before in
+    let turn = passing .before .before .before .before .before in
+    turns _ _ _ _ _ _ _ _ _ _ (turn .before .loop .inv) (turn .loop-test .taken) _ (passing .before .end-at .ensures)
+    _ (passing .pass .ensures) _ _ _ (passes .losses .given .1) (written .write-row .ensures)
 
 same-length-2 : tie.Need-same-length-2 Inv-loop μ-loop
 same-length-2 c = c .before .loop .inv .kept
 
 returns-2 : tie.Need-returns-2 Inv-loop μ-loop
-returns-2 c = ends _ _ _ _ _ _ _ _ _ (c .before .loop .inv) (c .loop-test .left)
+returns-2 c = ends _ _ _ _ _ _ _ _ _ _ (c .before .loop .inv) (c .loop-test .left)
 
 pub run-ages-spec : {M : Type 1} → statement M
 run-ages-spec =
@@ -140,7 +145,6 @@ run-ages-spec =
     (tie.spec
     Inv-loop
     μ-loop
-    done-at-requires
     mul-field
     add-field
     loop-holds
@@ -148,11 +152,12 @@ run-ages-spec =
     mul-hour
     element-copy-out-hour
     cast-hour
-    add-moment
-    mul-moment
-    element-copy-out-moment
-    done-at-requires-2
-    passed-by-requires
+    add-moments
+    mul-moments
+    element-copy-out-moments
+    add-moments-2
+    end-at-requires
+    pass-requires
     enum-known-losses
     enum-told
     same-length

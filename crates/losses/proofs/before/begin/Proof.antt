@@ -70,7 +70,7 @@ returns c = fails-deflected _ (sym (three-is (c .before .before)) ∙ c .enum-to
 early-relaxation-requires : tie.Need-early-relaxation-requires
 early-relaxation-requires c κs =
     let start = c .before .before .before .before .before .before .before .before in
-    (start .pre .0, (start .pre .1, deflected-fits _ _ (start .pre .0) (deflected-is c)))
+    (start .pre .0, start .pre .1, deflected-fits _ _ (start .pre .0) (deflected-is c))
 
 after-requires : tie.Need-after-requires
 after-requires c κs = search needs
@@ -91,6 +91,7 @@ shortening-requires c κs =
     let deflected = c .before .before .before .before .before in
     let start = deflected .before .before .before .before .before .before .before .before in (
       start .pre .0,
+      start .pre .1,
       left-fits _ _ _ (deflected-fits _ _ (start .pre .0) (deflected-is deflected)) (relaxed-is c),
     )
 

@@ -1,36 +1,31 @@
--- A pretensioned member's clock is read at transfer, and the logarithm of hour 1 is 0. Assumes nothing.
+-- A pretensioned member relaxes until transfer, and the logarithm of hour 1 is 0. Assumes nothing.
 use borrow.Author.Needs.{needs}
-use mathlib.Core.Path.{_≡_}
+use mathlib.Core.Path.{ap}
 use native.Mathlib.Omega.{arith}
+use Rattle.coefficient.specs.Clocks.{sinceTensioning}
 use Rattle.losses.proofs.Beginning.{relaxes-early, relaxes-late}
 use Rattle.losses.proofs.Clocks.{logarithm-most}
 use Rattle.losses.proofs.before.early_relaxation.Statement.{statement}
 use Rattle.losses.proofs.before.early_relaxation.Tie as tie
-use Rattle.losses.specs.BeforeAges.{relaxationLogarithm}
+use Rattle.losses.specs.declared.ends.End.{End}
 
 enum-told : tie.Need-enum-told
 enum-told c = search needs
 
-since-tensioning-requires : tie.Need-since-tensioning-requires
-since-tensioning-requires c κs = search needs
-
-relaxation-logarithm-requires : tie.Need-relaxation-logarithm-requires
-relaxation-logarithm-requires c κs = search needs
-
 relaxation-loss-requires : tie.Need-relaxation-loss-requires
 relaxation-loss-requires c κs =
-    omega (arith, c .relaxation-logarithm .ensures, logarithm-most (c .before .since-tensioning .result .0))
+    let start = c .before .before .before in
+    let hours = start .args .m .hours in
+    omega (arith, ap (λ (end : End). end .logarithm) (start .pre .1), logarithm-most (sinceTensioning hours (hours .transfer) .0))
 
 enum-told-2 : tie.Need-enum-told-2
 enum-told-2 c = search needs
 
 returns : tie.Need-returns
 returns c =
-    let args = c .before .before .before .before .before .before .args in
-    let logarithms : c .before .relaxation-logarithm .result ≡ relaxationLogarithm (args .m) (args .m .hours .transfer) =
-    rw (c .before .before .since-tensioning .ensures) at (c .before .relaxation-logarithm .ensures) in
-    relaxes-early (args .m) (args .stress) _ _ (c .before .before .before .enum-told .given .1) logarithms
-    (c .relaxation-loss .ensures)
+    let start = c .before .before .before .before in
+    relaxes-early (start .args .m) (start .args .stress) _ _ (c .before .enum-told .given .1)
+    (ap (λ (end : End). end .logarithm) (start .pre .1)) (c .relaxation-loss .ensures)
 
 returns-2 : tie.Need-returns-2
 returns-2 c =
@@ -38,13 +33,4 @@ returns-2 c =
     relaxes-late (args .m) (args .stress) (c .enum-told2 .given .1)
 
 pub early-relaxation-spec : {M : Type 1} → statement M
-early-relaxation-spec =
-    tie.close
-    (tie.spec
-    enum-told
-    since-tensioning-requires
-    relaxation-logarithm-requires
-    relaxation-loss-requires
-    enum-told-2
-    returns
-    returns-2)
+early-relaxation-spec = tie.close (tie.spec enum-told relaxation-loss-requires enum-told-2 returns returns-2)

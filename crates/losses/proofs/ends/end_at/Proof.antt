@@ -1,7 +1,10 @@
 -- Each clock is read where the definition reads it. Assumes nothing.
 use borrow.Author.Needs.{needs}
-use Rattle.losses.proofs.ages.done_at.Statement.{statement}
-use Rattle.losses.proofs.ages.done_at.Tie as tie
+use Rattle.losses.proofs.ends.end_at.Statement.{statement}
+use Rattle.losses.proofs.ends.end_at.Tie as tie
+
+moment-stress-requires : tie.Need-moment-stress-requires
+moment-stress-requires c κs = search needs
 
 since-transfer-requires : tie.Need-since-transfer-requires
 since-transfer-requires c κs = search needs
@@ -32,6 +35,7 @@ returns c =
     let shrinkage-at = c .before .before in
     let creep-at = shrinkage-at .before .before .before in
     rw (
+      creep-at .before .before .before .moment-stress .ensures,
       creep-at .creep-share .ensures,
       creep-at .before .since-transfer2 .ensures,
       creep-at .before .before .since-transfer .ensures,
@@ -42,10 +46,11 @@ returns c =
       c .before .since-tensioning .ensures,
     )
 
-pub done-at-spec : {M : Type 1} → statement M
-done-at-spec =
+pub end-at-spec : {M : Type 1} → statement M
+end-at-spec =
     tie.close
     (tie.spec
+    moment-stress-requires
     since-transfer-requires
     since-transfer-requires-2
     creep-share-requires

@@ -1,10 +1,9 @@
--- Each share and the logarithms are differences of the interval's ends, no more than what is done at its end, so that every loss has
+-- Each share and the logarithms are differences of the interval's ends, no more than what stands at the later, so that every loss has
 -- its bounds. Assumes nothing.
 use borrow.Author.Needs.{needs}
 use native.Mathlib.Omega.{arith}
-use Rattle.losses.proofs.ages.losses_by.Statement.{statement}
-use Rattle.losses.proofs.ages.losses_by.Tie as tie
-use Rattle.losses.specs.BeforeAges.{momentStressOf}
+use Rattle.losses.proofs.ages.losses_between.Statement.{statement}
+use Rattle.losses.proofs.ages.losses_between.Tie as tie
 use Rattle.steps.proofs.Laws.{concrete-most}
 
 concrete-stress-requires : tie.Need-concrete-stress-requires
@@ -21,14 +20,12 @@ difference-requires-3 c κs = search needs
 
 creep-loss-requires : tie.Need-creep-loss-requires
 creep-loss-requires c κs =
-    let args = c .before .before .before .before .before .args in
-    let m = args .m in
-    let start = args .start in
-    omega (
-      arith,
-      c .before .before .difference .ensures,
-      c .before .before .before .concrete-stress .ensures,
-      concrete-most (start .stress) (m .kappa) (momentStressOf m (start .moments)) (omega arith) (omega arith),
+    let start = c .before .before .before .before in
+    let bounds = start .pre in
+    let c-fits = concrete-most _ _ _ (bounds .1) (bounds .0 .kappa-fits) in (
+      bounds .0 .creep-fits,
+      omega (arith, c .before .before .difference .ensures, bounds .2 .creep-fits),
+      rw (c .before .before .before .concrete-stress .ensures) c-fits,
     )
 
 shrinkage-loss-requires : tie.Need-shrinkage-loss-requires
@@ -39,10 +36,11 @@ relaxation-loss-requires c κs = search needs
 
 returns : tie.Need-returns
 returns c =
-    let readings = c .before .before .before in
+    let shrunk = c .before in
+    let readings = shrunk .before .before in
     rw (
-      c .before .before .creep-loss .ensures,
-      c .before .shrinkage-loss .ensures,
+      shrunk .before .creep-loss .ensures,
+      shrunk .shrinkage-loss .ensures,
       c .relaxation-loss .ensures,
       readings .difference3 .ensures,
       readings .before .difference2 .ensures,
@@ -50,8 +48,8 @@ returns c =
       readings .before .before .before .concrete-stress .ensures,
     )
 
-pub losses-by-spec : {M : Type 1} → statement M
-losses-by-spec =
+pub losses-between-spec : {M : Type 1} → statement M
+losses-between-spec =
     tie.close
     (tie.spec
     concrete-stress-requires
