@@ -1,6 +1,6 @@
 // The two entries: a card or a list of doubles, over lent buffers of any length. Their one promise is the record `Promise`.
-ghost use Rattle.fields.specs.Card.{cardOutcome};
-ghost use Rattle.fields.specs.Lists.{listOutcome};
+ghost use Rattle.card.specs.Card.{cardOutcome};
+ghost use Rattle.list.specs.Lists.{listOutcome};
 ghost use Rattle.entries.specs.Promise.{Promise};
 use fields::layout::MOST_FIELDS;
 use fields::refusal::Reading;
@@ -12,7 +12,7 @@ pub fn run_card(card: &[u8], report: &mut [u64], scratch: &mut [u64]) -> Answer
         r (now (report .exit)) (now (report .entry)) (now (scratch .exit)) (now (scratch .entry)) ⌝ }
 {
     let mut fields = [0u64; MOST_FIELDS];
-    match fields::card::read_card(card, &mut fields) {
+    match card::read_card(card, &mut fields) {
         Reading::Not(refusal) => Answer::Refused(refusal),
         Reading::Fields(segments, ages) => losses::run_fields(
             &fields,
@@ -30,7 +30,7 @@ pub fn run_list(list: &[f64], report: &mut [u64], scratch: &mut [u64]) -> Answer
         r (now (report .exit)) (now (report .entry)) (now (scratch .exit)) (now (scratch .entry)) ⌝ }
 {
     let mut fields = [0u64; MOST_FIELDS];
-    match fields::list::read_list(list, &mut fields) {
+    match list::read_list(list, &mut fields) {
         Reading::Not(refusal) => Answer::Refused(refusal),
         Reading::Fields(segments, ages) => losses::run_fields(
             &fields,

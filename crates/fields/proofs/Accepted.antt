@@ -4,7 +4,7 @@ use mathlib.Core.List.{List}
 use Prim.Native.Nat.{ℕ, _-_, _^_, _≤_, _<_}
 use lib.ListN.{length, getD}
 use Rattle.fields.specs.Layout.{segmentsField, agesField, mostSegments, leastAges, mostAges, fieldsIn}
-use Rattle.fields.specs.Card.{columns}
+use Rattle.fields.specs.Layout.{columns}
 
 pub record Accepted (numbers : List ℕ) (segments ages : ℕ) : Type 0 where
   pub few-segments : segments ≤ mostSegments

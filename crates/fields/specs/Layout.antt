@@ -1,7 +1,11 @@
--- How the fields of document 01, "The card", are numbered, and the limits that their counts have. Assumes nothing.
+-- How the fields of document 01, "The card", are set and numbered, and the limits that their counts have. Assumes nothing.
 use Prim.Native.Nat.{ℕ, _+_, _*_}
 use mathlib.Core.Bool.{Bool, true, false, _||_}
 use lib.Dec.{ltb}
+
+-- "14-column fields"
+abbrev pub columns : ℕ
+columns = 14
 
 -- "6 slip"; "A blank slip field reads 256 ticks"
 abbrev pub slipField : ℕ

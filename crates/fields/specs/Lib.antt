@@ -1,6 +1,3 @@
 pub mod Refusals
 pub mod Layout
 pub mod Amounts
-pub mod Card
-pub mod Lists
-pub mod Measures

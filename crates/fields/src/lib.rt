@@ -1,6 +1,4 @@
-// Cards and lists of doubles, read into one flat sequence of numbers: field k of document 01 is element k - 1.
+// The fields of a card or a list, one flat sequence of numbers: field k of document 01 is element k - 1. And the refusals.
 
-pub mod card;
 pub mod layout;
-pub mod list;
 pub mod refusal;

@@ -2,7 +2,7 @@
 // before the ages and the stress after them, then a line for each age; a refused card's is a line of number and place.
 ghost use Prim.Native.Nat.{_≤_};
 ghost use lib.ListN.{length};
-ghost use Rattle.fields.specs.Card.{columns};
+ghost use Rattle.fields.specs.Layout.{columns};
 ghost use Rattle.io.specs.Counts.{Counts};
 ghost use Rattle.printing.specs.Sizes.{mostBytes, mostRoom};
 use fields::layout::HEAD_FIELDS;
@@ -144,7 +144,7 @@ fn print_ages(
 // The ages' lines of an accepted card: their hours are read off the card once more.
 fn print_ages_of(card: &[u8], report: &[u64; MOST_NUMBERS]) {
     let mut numbers = [0u64; MOST_FIELDS];
-    let Reading::Fields(segments, ages) = fields::card::read_card(card, &mut numbers) else {
+    let Reading::Fields(segments, ages) = card::read_card(card, &mut numbers) else {
         return;
     };
     print_ages(&numbers, segments, ages, report);
@@ -196,7 +196,7 @@ fn print_rows(report: &[u64; MOST_ROOM], ages: u64) {
 // The rows of an accepted list: how many there are is read off the list once more.
 fn print_rows_of(list: &[f64], report: &[u64; MOST_ROOM]) {
     let mut numbers = [0u64; MOST_FIELDS];
-    let Reading::Fields(_, ages) = fields::list::read_list(list, &mut numbers) else {
+    let Reading::Fields(_, ages) = list::read_list(list, &mut numbers) else {
         return;
     };
     print_rows(report, ages);

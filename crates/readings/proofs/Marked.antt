@@ -8,7 +8,7 @@ use Rattle.ticks.specs.Doubles.{ticksOf, magnitude, one}
 use Rattle.logarithm.specs.Logarithm.{logarithm}
 use Rattle.coefficient.specs.Coefficients.{scf, ssf, mcf, ucr, ush, creepShare, shrinkageShare}
 use Rattle.fields.specs.Amounts.{numbersIn}
-use Rattle.fields.specs.Card.{cardOutcome, digitsOf, spacesIn}
+use Rattle.card.specs.Card.{cardOutcome, digitsOf, spacesIn}
 use Rattle.member.specs.Quantities.{segmentsFrom, agesFrom}
 use Rattle.member.specs.Friction.{pathFriction}
 use Rattle.member.specs.Rows.{firstFailing, segmentCodes, rangesOfSegments, rangesOfMoments, hoursOfAges}

@@ -12,7 +12,8 @@ use Rattle.coefficient.specs.declared.codes.Cure.the-variants.{Moist}
 use Rattle.coefficient.specs.declared.clocks.HoursSinceTransfer.{HoursSinceTransfer}
 use Rattle.coefficient.specs.Coefficients.{scf, mcf, creepShare}
 use Rattle.fields.specs.Amounts.{accepted}
-use Rattle.fields.specs.Card.{columns, space, lineFeed, cardOutcome}
+use Rattle.fields.specs.Layout.{columns}
+use Rattle.card.specs.Card.{space, lineFeed, cardOutcome}
 use Rattle.fields.specs.Refusals.{number, place}
 use Rattle.member.specs.Quantities.{Segment, Age, agesOf}
 use Rattle.member.specs.Friction.{pathFriction, parabola}

@@ -25,8 +25,8 @@ use Rattle.fields.specs.Layout.{segmentsField, agesField, mostSegments, leastAg
 use Rattle.fields.specs.Layout.{headFields, mostFields, fieldsIn}
 use Rattle.fields.specs.Amounts.{refused as notRead}
 use Rattle.fields.proofs.Accepted.{Accepted}
-use Rattle.fields.proofs.ListLaws.{accepted-list}
-use Rattle.fields.specs.Lists.{amountIn, inTicks, amountsOf, withCount, countIn, countsIn, withCounts, listOutcome}
+use Rattle.list.proofs.Laws.{accepted-list}
+use Rattle.list.specs.Lists.{amountIn, inTicks, amountsOf, withCount, countIn, countsIn, withCounts, listOutcome}
 use Rattle.stratelyn.specs.Numbers.{room, numbersFrom, doublesOf, bytesOutcome}
 use Rattle.stratelyn.specs.Parts.{standsFor, mostDoubles}
 

@@ -9,7 +9,7 @@ use lib.ListN.{length, take, drop}
 use Rattle.ticks.specs.Numbers.{numberOf, bytesOf, bytesPerNumber}
 use Rattle.fields.specs.declared.refusal.Refusal.the-variants.{Shape}
 use Rattle.fields.specs.Amounts.{Outcome, refused}
-use Rattle.fields.specs.Lists.{listOutcome}
+use Rattle.list.specs.Lists.{listOutcome}
 
 -- how many numbers some bytes hold: "odd bytes at a buffer's end" hold none
 abbrev pub room : ℕ → ℕ

@@ -1,5 +1,5 @@
 // The two entries for C hosts, on numbers and byte slices. Their one promise is the record `Served`.
-ghost use Rattle.fields.specs.Card.{cardOutcome};
+ghost use Rattle.card.specs.Card.{cardOutcome};
 ghost use Rattle.stratelyn.specs.Numbers.{bytesOutcome};
 ghost use Rattle.stratelyn.specs.Hosts.{Served};
 
@@ -27,7 +27,7 @@ pub extern "C" fn stratelyn_run_card(
         return REPLY_TOO_SHORT;
     }
     let mut fields = [0u64; MOST_FIELDS];
-    let reading = fields::card::read_card(card, &mut fields);
+    let reading = card::read_card(card, &mut fields);
     run::serve(reading, &fields, scratch.len(), report, reply)
 }
 

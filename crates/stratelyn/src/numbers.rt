@@ -5,7 +5,7 @@ ghost use Prim.Native.Nat.{_*_, min, _≤_};
 ghost use lib.ListN.{length};
 ghost use Rattle.ticks.specs.Numbers.{bytesPerNumber};
 ghost use Rattle.fields.specs.Amounts.{over};
-ghost use Rattle.fields.specs.Lists.{listOutcome};
+ghost use Rattle.list.specs.Lists.{listOutcome};
 ghost use Rattle.stratelyn.specs.Numbers.{room, numbersFrom, doublesOf, bytesOutcome};
 ghost use Rattle.stratelyn.specs.Hosts.{written};
 ghost use Rattle.stratelyn.specs.Parts.{standsFor, mostDoubles};
@@ -81,7 +81,7 @@ fn read_by(list: &[u8], doubles: &mut [f64], fields: &mut [u64; MOST_FIELDS]) ->
 {
     let count = room_up_to(MOST_DOUBLES, list.len());
     read_doubles(list, &mut doubles[..count]);
-    fields::list::read_list(&doubles[..count], fields)
+    list::read_list(&doubles[..count], fields)
 }
 
 // Reads a list: its numbers go to the front of `fields`, all of them or those before the first field that is refused.

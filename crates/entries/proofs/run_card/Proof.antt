@@ -5,9 +5,9 @@ use mathlib.Core.List.{List}
 use mathlib.Core.Path.{_≡_, sym, _∙_}
 use Prim.Native.Nat.{ℕ, _≤_}
 use Rattle.fields.specs.Layout.{mostSegments, mostAges}
-use Rattle.fields.specs.Card.{cardOutcome}
+use Rattle.card.specs.Card.{cardOutcome}
 use Rattle.fields.specs.declared.refusal.Reading.the-variants.{Fields}
-use Rattle.fields.proofs.CardLaws.{card-accepted}
+use Rattle.card.proofs.Laws.{card-accepted}
 use Rattle.entries.proofs.Closeness.{promise}
 use Rattle.entries.proofs.Readers.{unread, readable, gives}
 use Rattle.entries.proofs.run_card.Statement.{statement}

@@ -6,9 +6,9 @@ use mathlib.Core.Path.{_≡_, sym, _∙_}
 use lib.Ieee.{Float}
 use Prim.Native.Nat.{ℕ, _≤_}
 use Rattle.fields.specs.Layout.{mostSegments, mostAges}
-use Rattle.fields.specs.Lists.{listOutcome}
+use Rattle.list.specs.Lists.{listOutcome}
 use Rattle.fields.specs.declared.refusal.Reading.the-variants.{Fields}
-use Rattle.fields.proofs.ListLaws.{accepted-list}
+use Rattle.list.proofs.Laws.{accepted-list}
 use Rattle.entries.proofs.Closeness.{promise}
 use Rattle.entries.proofs.Readers.{unread, readable, gives}
 use Rattle.entries.proofs.run_list.Statement.{statement}

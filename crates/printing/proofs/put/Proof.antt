@@ -4,7 +4,7 @@ use Prim.Native.Nat.{_≤_}
 use mathlib.Core.Path.{_≡_}
 use borrow.Author.Needs.{needs}
 use lib.ListN.{length}
-use Rattle.fields.specs.Card.{columns}
+use Rattle.fields.specs.Layout.{columns}
 use Rattle.printing.proofs.put.Statement.{statement}
 use Rattle.printing.proofs.put.Tie as tie
 

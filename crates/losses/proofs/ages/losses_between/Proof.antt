@@ -21,11 +21,10 @@ difference-requires-3 c κs = search needs
 creep-loss-requires : tie.Need-creep-loss-requires
 creep-loss-requires c κs =
     let start = c .before .before .before .before in
-    let bounds = start .pre in
-    let c-fits = concrete-most _ _ _ (bounds .1) (bounds .0 .kappa-fits) in (
+    let bounds = start .pre in (
       bounds .0 .creep-fits,
       omega (arith, c .before .before .difference .ensures, bounds .2 .creep-fits),
-      rw (c .before .before .before .concrete-stress .ensures) c-fits,
+      rw (c .before .before .before .concrete-stress .ensures) (concrete-most _ _ _ (bounds .1) (bounds .0 .kappa-fits)),
     )
 
 shrinkage-loss-requires : tie.Need-shrinkage-loss-requires

@@ -1,0 +1,5 @@
+pub mod Laws
+mod Fields
+mod Line
+mod Lines
+mod Outcome

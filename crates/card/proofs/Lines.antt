@@ -1,0 +1,314 @@
+-- Lines one after the other: groups of them chain, and a buffer written over from the end of what is done on is the whole written
+-- over. Assumes nothing.
+use mathlib.Core.Path.{_≡_, refl, sym, ap, _∙_}
+use mathlib.Core.Bool.{Bool, true, false, _&&_}
+use mathlib.Core.List.{List, [], _∷_, _++_, append-assoc, append-nil}
+use Prim.Native.Nat.{ℕ, suc, _+_, _-_, _*_, _≤_, _<_}
+use native.Mathlib.Nat.{zero-add, add-zero, add-assoc}
+use native.Mathlib.Numerals.{add-one}
+use native.Mathlib.Omega.{arith}
+use lib.Dec.{leb, eqb}
+use lib.ListN.{length, getD, take, drop, length-append, length-drop, drop-of-length-le}
+use lib.Seq.{drop-drop, take-suc, take-append-seam, drop-append-seam, length-take-le, take-all, split-at}
+use borrow.Author.Tests.{leb-true, eqb-true}
+use borrow.Rule.Slice.PartMut.{midOf, putMid}
+use Rattle.fields.specs.Amounts.{numbersIn, allRead, over}
+use Rattle.fields.specs.Layout.{columns}
+use Rattle.card.specs.Card.{lineFeed, lineLength, amountsOf, isShaped, isRight, lineNumbers}
+use Rattle.card.specs.Card.{Lines, readLines, fieldsOn}
+use Rattle.card.proofs.Line.{amounts-length, tail, Line}
+
+-- ---- buffers
+
+-- a part from the end of what is done on, written over, is the whole written over
+over-part : (done more old : List ℕ) (at : ℕ) → at ≡ length done
+    → take at (over done old) ++ over more (drop at (over done old)) ≡ over (done ++ more) old
+over-part done more old at e = rw (e, take-append-seam, drop-append-seam, drop-drop, length-append, append-assoc)
+
+pub length-over : (new old : List ℕ) → length new ≤ length old → length (over new old) ≡ length old
+length-over new old h = simp (length-append, length-drop) (omega arith)
+
+-- the same where the part is lent as `&mut buffer[at..]`
+pub lent : (done more old buffer part : List ℕ) (at : ℕ) → at ≡ length done → buffer ≡ over done old
+    → part ≡ over more (midOf at (length buffer - at) buffer)
+    → putMid at (length buffer - at) buffer part ≡ over (done ++ more) old
+lent done more old buffer part at e is written =
+    ap (λ (l : List ℕ). take at buffer ++ (part ++ l))
+    (drop-of-length-le (drop at buffer) {i = length buffer - at} (simp length-drop (omega arith)))
+    ∙ ap (λ (l : List ℕ). take at buffer ++ l) (append-nil part ∙ written ∙ ap (λ (l : List ℕ). over more l) (tail buffer at))
+    ∙ ap (λ (l : List ℕ). take at l ++ over more (drop at l)) is
+    ∙ over-part done more old at e
+
+-- ---- a line that is right
+
+pub and-left : (a b : Bool) → (a && b) ≡ true → a ≡ true
+and-left true b h = refl
+and-left false b h = h
+
+pub and-right : (a b : Bool) → (a && b) ≡ true → b ≡ true
+and-right true b h = h
+and-right false b h = absurd (let z : _≡_ {A = ℕ} 0 1 = cc in omega arith)
+
+pub right-line : (count field : ℕ) (bytes : List ℕ) → isRight count field bytes ≡ true
+    → (lineLength count ≤ length bytes) × (length (lineNumbers count field bytes) ≡ count)
+right-line count field bytes h =
+    let amounts = amountsOf count field bytes in
+    let shaped : isShaped count bytes ≡ true = and-left (isShaped count bytes) (allRead amounts) h in
+    let long = and-left (leb (lineLength count) (length bytes)) (eqb (getD bytes (columns * count) 0) lineFeed) shaped in
+    let numbers : lineNumbers count field bytes ≡ numbersIn amounts = rw shaped in (
+      leb-true (lineLength count) (length bytes) long,
+      ap length numbers
+          ∙ eqb-true (length (numbersIn amounts)) (length amounts) (and-right (isShaped count bytes) (allRead amounts) h)
+          ∙ amounts-length count field bytes,
+    )
+
+-- ---- lines that are right, and those behind them
+
+-- how many bytes some lines have
+abbrev pub bytesOn : List ℕ → ℕ
+bytesOn [] = 0
+bytesOn (count ∷ counts) = lineLength count + bytesOn counts
+
+pub fields-append : (xs ys : List ℕ) → fieldsOn (xs ++ ys) ≡ fieldsOn xs + fieldsOn ys
+fields-append [] ys = sym (zero-add (fieldsOn ys))
+fields-append (x ∷ xs) ys = let h = fields-append xs ys in omega arith
+
+pub bytes-append : (xs ys : List ℕ) → bytesOn (xs ++ ys) ≡ bytesOn xs + bytesOn ys
+bytes-append [] ys = sym (zero-add (bytesOn ys))
+bytes-append (x ∷ xs) ys = let h = bytes-append xs ys in omega arith
+
+pub record Right (counts bytes : List ℕ) (lines : Lines) : Type 0 where
+  pub rest : lines .rest ≡ drop (bytesOn counts) bytes
+  pub long : bytesOn counts ≤ length bytes
+  pub read : length (lines .numbers) ≡ fieldsOn counts
+
+-- lines and later lines
+abbrev pub andThen : Lines → Lines → Lines
+andThen first later = record { numbers = first .numbers ++ later .numbers; wrong = later .wrong; rest = later .rest }
+
+-- a first line and those behind it
+module _ (count : ℕ) (counts : List ℕ) (line field : ℕ) (bytes : List ℕ) where
+  abbrev all : Lines
+  all = readLines (count ∷ counts) line field bytes
+
+  abbrev later : Lines
+  later = readLines counts (suc line) (field + count) (drop (lineLength count) bytes)
+
+  first-right : isRight count field bytes ≡ true
+      → all ≡ record { numbers = lineNumbers count field bytes ++ later .numbers; wrong = later .wrong; rest = later .rest }
+  unfolding readLines
+  first-right e = rw e
+
+  first-wrong : isRight count field bytes ≡ false
+      → all ≡ record { numbers = lineNumbers count field bytes; wrong = line; rest = bytes }
+  unfolding readLines
+  first-wrong e = rw e
+
+  cons-right : (b : Bool) → isRight count field bytes ≡ b → 0 < line → all .wrong ≡ 0
+      → (later .wrong ≡ 0 → Right counts (drop (lineLength count) bytes) later) → Right (count ∷ counts) bytes all
+  cons-right true q h e ih =
+      let is = first-right q in
+      let r = ih (ap (λ (l : Lines). l .wrong) (sym is) ∙ e) in
+      let l = r .long in
+      let m = length-drop (lineLength count) bytes in
+      let ok = right-line count field bytes q in
+      let long : lineLength count ≤ length bytes = ok .0 in
+      let n = length-append (lineNumbers count field bytes) (later .numbers) in
+      let first : length (lineNumbers count field bytes) ≡ count = ok .1 in
+      let read = r .read in
+      record {
+        rest = ap (λ (l : Lines). l .rest) is ∙ r .rest ∙ drop-drop (bytesOn counts) (lineLength count) bytes;
+        long = omega arith;
+        read = ap (λ (l : Lines). length (l .numbers)) is ∙ (omega arith);
+      }
+  cons-right false q h e ih =
+      let z : line ≡ 0 = ap (λ (l : Lines). l .wrong) (sym (first-wrong q)) ∙ e in
+      absurd (omega arith)
+
+pub lines-right : (counts : List ℕ) (line field : ℕ) (bytes : List ℕ) → 0 < line → readLines counts line field bytes .wrong ≡ 0
+    → Right counts bytes (readLines counts line field bytes)
+unfolding readLines
+lines-right [] line field bytes h e = record { rest = refl; long = omega arith; read = refl }
+lines-right (count ∷ counts) line field bytes h e =
+    cons-right count counts line field bytes (isRight count field bytes) refl h e
+    (lines-right counts (suc line) (field + count) (drop (lineLength count) bytes) (omega arith))
+
+-- groups of lines chain
+module _ (count : ℕ) (xs ys : List ℕ) (line field : ℕ) (bytes : List ℕ) where
+  abbrev first : Lines
+  first = readLines (count ∷ xs) line field bytes
+
+  abbrev behind : Lines
+  behind = readLines xs (suc line) (field + count) (drop (lineLength count) bytes)
+
+  cons-append : (b : Bool) → isRight count field bytes ≡ b → 0 < line → first .wrong ≡ 0
+      → (behind .wrong ≡ 0 → readLines (xs ++ ys) (suc line) (field + count) (drop (lineLength count) bytes)
+      ≡ andThen behind (readLines ys (suc line + length xs) (field + count + fieldsOn xs) (behind .rest)))
+      → readLines (count ∷ xs ++ ys) line field bytes
+      ≡ andThen first (readLines ys (line + length (count ∷ xs)) (field + fieldsOn (count ∷ xs)) (first .rest))
+  cons-append true q h e ih =
+      let is = first-right count xs line field bytes q in
+      let next : suc line + length xs ≡ line + suc (length xs) = omega arith in
+      first-right count (xs ++ ys) line field bytes q
+      ∙ rw (is, ih (ap (λ (l : Lines). l .wrong) (sym is) ∙ e), next, add-assoc, append-assoc)
+  cons-append false q h e ih =
+      let z : line ≡ 0 = ap (λ (l : Lines). l .wrong) (sym (first-wrong count xs line field bytes q)) ∙ e in
+      absurd (omega arith)
+
+  cons-stops : (b : Bool) → isRight count field bytes ≡ b → 0 < first .wrong
+      → (0 < behind .wrong → readLines (xs ++ ys) (suc line) (field + count) (drop (lineLength count) bytes) ≡ behind)
+      → readLines (count ∷ xs ++ ys) line field bytes ≡ first
+  cons-stops true q h ih =
+      let is = first-right count xs line field bytes q in
+      let e = ap (λ (l : Lines). l .wrong) is in
+      first-right count (xs ++ ys) line field bytes q ∙ rw (ih (omega arith)) (sym is)
+  cons-stops false q h ih = first-wrong count (xs ++ ys) line field bytes q ∙ sym (first-wrong count xs line field bytes q)
+
+-- behind lines that are right stand the later ones
+pub readLines-append : (xs ys : List ℕ) (line field : ℕ) (bytes : List ℕ) → 0 < line → readLines xs line field bytes .wrong ≡ 0
+    → readLines (xs ++ ys) line field bytes
+    ≡ andThen (readLines xs line field bytes)
+    (readLines ys (line + length xs) (field + fieldsOn xs) (readLines xs line field bytes .rest))
+unfolding readLines
+readLines-append [] ys line field bytes h e = rw (add-zero line, add-zero field)
+readLines-append (count ∷ xs) ys line field bytes h e =
+    cons-append count xs ys line field bytes (isRight count field bytes) refl h e
+    (readLines-append xs ys (suc line) (field + count) (drop (lineLength count) bytes) (omega arith))
+
+-- behind a wrong line no other is read
+pub readLines-stops : (xs ys : List ℕ) (line field : ℕ) (bytes : List ℕ) → 0 < readLines xs line field bytes .wrong
+    → readLines (xs ++ ys) line field bytes ≡ readLines xs line field bytes
+unfolding readLines
+readLines-stops [] ys line field bytes h = absurd (omega arith)
+readLines-stops (count ∷ xs) ys line field bytes h =
+    cons-stops count xs ys line field bytes (isRight count field bytes) refl h
+    (readLines-stops xs ys (suc line) (field + count) (drop (lineLength count) bytes))
+
+-- ---- the loop over lines
+
+-- what the reader of lines leaves
+abbrev pub LinesRead : Lines → List ℕ → List ℕ → ℕ → Type 0
+LinesRead lines old now wrong = (wrong ≡ lines .wrong) × (now ≡ over (lines .numbers) old)
+
+-- `done` lines are right, and their numbers stand at the front of the buffer
+pub record LinesFront (part counts : List ℕ) (line field : ℕ) (old now : List ℕ) (done at read : ℕ) : Type 0 where
+  pub from : 0 < line
+  pub room : fieldsOn counts ≤ length old
+  pub within : done ≤ length counts
+  pub at-is : at ≡ bytesOn (take done counts)
+  pub at-fits : at ≤ length part
+  pub read-is : read ≡ fieldsOn (take done counts)
+  pub read-fits : read ≤ length old
+  pub same : length now ≡ length old
+  pub right : readLines (take done counts) line field part .wrong ≡ 0
+  pub is : now ≡ over (readLines (take done counts) line field part .numbers) old
+
+pub no-lines : (part counts : List ℕ) (line field : ℕ) (old : List ℕ) → 0 < line → fieldsOn counts ≤ length old
+    → LinesFront part counts line field old old 0 0 0
+unfolding readLines
+no-lines part counts line field old h r = record {
+  from = h;
+  room = r;
+  within = omega arith;
+  at-is = refl;
+  at-fits = omega arith;
+  read-is = refl;
+  read-fits = omega arith;
+  same = refl;
+  right = refl;
+  is = refl;
+}
+
+module _ {part counts : List ℕ} {line field : ℕ} {old now : List ℕ} {done at read : ℕ}
+    (f : LinesFront part counts line field old now done at read) where
+  pub all-lines : length counts ≤ done → LinesRead (readLines counts line field part) old now 0
+  all-lines h =
+      let all : take done counts ≡ counts = take-all done counts h in
+      (sym (rw all at (f .right)), rw all at (f .is))
+
+  module _ (more : done < length counts) where
+    abbrev count : ℕ
+    count = getD counts done 0
+
+    abbrev passed : Lines
+    passed = readLines (take done counts) line field part
+
+    abbrev row : List ℕ
+    row = lineNumbers count (field + read) (drop at part)
+
+    pub fits : read + count ≤ length old
+    fits =
+        let whole : fieldsOn counts ≡ fieldsOn (take done counts) + (count + fieldsOn (drop (suc done) counts)) =
+        ap fieldsOn (split-at counts done 0 more) ∙ fields-append (take done counts) (count ∷ drop (suc done) counts) in
+        let room = f .room in
+        let is = f .read-is in
+        omega arith
+
+    good : Right (take done counts) part passed
+    good = lines-right (take done counts) line field part (f .from) (f .right)
+
+    -- the lines from the next on
+    from-next : (later : List ℕ) → readLines (take done counts ++ later) line field part
+        ≡ andThen passed (readLines later (line + done) (field + read) (drop at part))
+    from-next later =
+        let n = length-take-le done counts (f .within) in
+        readLines-append (take done counts) later line field part (f .from) (f .right)
+        ∙ rw (n, sym (f .read-is), good .rest, sym (f .at-is))
+
+    module _ (after : List ℕ) (r : Bool)
+        (written : Line (take (length part - at) (drop at part)) count (field + read)
+        (midOf read (length now - read) now) after r) where
+      abbrev buffer : List ℕ
+      buffer = putMid read (length now - read) now after
+
+      is-right : isRight count (field + read) (drop at part) ≡ r
+      is-right = sym (written .0 ∙ rw (tail part at))
+
+      buffer-is : buffer ≡ over (passed .numbers ++ row) old
+      buffer-is =
+          lent (passed .numbers) row old now after read (f .read-is ∙ sym (good .read)) (f .is)
+          (written .1 ∙ rw (tail part at))
+
+      pub next-line : r ≡ true
+          → LinesFront part counts line field old buffer (done + 1) (at + (columns * count + 1)) (read + count)
+      unfolding readLines
+      next-line e =
+          let q : isRight count (field + read) (drop at part) ≡ true = is-right ∙ e in
+          let ok = right-line count (field + read) (drop at part) q in
+          let long : lineLength count ≤ length (drop at part) = ok .0 in
+          let l = length-drop at part in
+          let taken : take (done + 1) counts ≡ take done counts ++ (count ∷ []) = rw (add-one, take-suc counts done 0) in
+          let lines : readLines (take (done + 1) counts) line field part
+          ≡ record { numbers = passed .numbers ++ row; wrong = 0; rest = drop (lineLength count) (drop at part) } =
+          ap (λ (l : List ℕ). readLines l line field part) taken ∙ from-next (count ∷ []) ∙ rw (q, append-nil) in
+          let read-now = f .read-is in
+          let at-now = f .at-is in
+          let a = bytes-append (take done counts) (count ∷ []) in
+          let b = fields-append (take done counts) (count ∷ []) in
+          let c = length-append (passed .numbers) row in
+          let d = good .read in
+          let d2 : length row ≡ count = ok .1 in
+          let fit = fits in
+          let at-fits = f .at-fits in
+          record {
+            from = f .from;
+            room = f .room;
+            within = omega arith;
+            at-is = (omega arith) ∙ ap bytesOn (sym taken);
+            at-fits = omega arith;
+            read-is = (omega arith) ∙ ap fieldsOn (sym taken);
+            read-fits = omega arith;
+            same = ap length buffer-is ∙ length-over (passed .numbers ++ row) old (omega arith);
+            right = ap (λ (l : Lines). l .wrong) lines;
+            is = buffer-is ∙ ap (λ (l : Lines). over (l .numbers) old) (sym lines);
+          }
+
+      pub wrong-line : r ≡ false → LinesRead (readLines counts line field part) old buffer (line + done)
+      unfolding readLines
+      wrong-line e =
+          let q : isRight count (field + read) (drop at part) ≡ false = is-right ∙ e in
+          let lines : readLines counts line field part
+          ≡ record { numbers = passed .numbers ++ row; wrong = line + done; rest = drop at part } =
+          ap (λ (l : List ℕ). readLines l line field part) (split-at counts done 0 more)
+          ∙ from-next (count ∷ drop (suc done) counts) ∙ rw q in
+          (ap (λ (l : Lines). l .wrong) (sym lines), buffer-is ∙ ap (λ (l : Lines). over (l .numbers) old) (sym lines))

@@ -1,0 +1,334 @@
+-- What the reader of a card leaves at each of its answers: lines 1 to 4, the two counts, the lines that they announce, and what
+-- stands behind. Each group of lines is what `readLines-append` says of it. Assumes nothing.
+use mathlib.Core.Path.{_≡_, refl, sym, ap, _∙_}
+use mathlib.Core.Bool.{cond}
+use mathlib.Core.List.{List, _∷_, _++_}
+use Prim.Native.Nat.{ℕ, zero, suc, _+_, _-_, _*_, _≤_, _<_}
+use native.Mathlib.Nat.{add-comm, mul-zero, mul-suc, le-of-suc-le-suc}
+use native.Mathlib.Omega.{arith}
+use lib.Dec.{ltb}
+use lib.ListN.{length, getD, take, drop, replicate, length-drop, length-replicate, List·getD-append}
+use borrow.Author.Tests.{lt-ltb, le-ltb}
+use borrow.Rule.Slice.PartMut.{midOf, putMid}
+use Rattle.fields.specs.declared.refusal.Refusal.the-variants.{Shape, Ranges}
+use Rattle.fields.specs.declared.refusal.Reading.{Reading}
+use Rattle.fields.specs.declared.refusal.Reading.the-variants.{Fields, Not}
+use Rattle.fields.specs.Layout.{segmentsField, agesField, mostSegments, leastAges, mostAges, perSegment, perAge}
+use Rattle.fields.specs.Layout.{headFields, firstSegmentField, mostFields}
+use Rattle.fields.specs.Amounts.{over, Outcome, refused, accepted}
+use Rattle.card.specs.Card.{lineLength, Lines, readLines, fieldsOn, headLines, head, firstSegmentLine, lineBehind}
+use Rattle.card.specs.Card.{announcedOf, segmentsIn, agesIn, announced, firstWrong, cardOutcome}
+use Rattle.card.proofs.Line.{tail}
+use Rattle.card.proofs.Lines.{lent, length-over, bytesOn, Right, lines-right}
+use Rattle.card.proofs.Lines.{andThen, readLines-append, readLines-stops, LinesRead}
+
+-- ---- lines of the same count
+
+take-replicate : (n most count : ℕ) → n ≤ most → take n (replicate most count) ≡ replicate n count
+take-replicate zero most count h = refl
+take-replicate (suc n) zero count h = absurd (omega arith)
+take-replicate (suc n) (suc most) count h = ap (λ (l : List ℕ). count ∷ l) (take-replicate n most count (le-of-suc-le-suc h))
+
+pub fields-replicate : (n count : ℕ) → fieldsOn (replicate n count) ≡ count * n
+fields-replicate zero count = sym (mul-zero count)
+fields-replicate (suc n) count = rw (fields-replicate n count, mul-suc) (add-comm count (count * n))
+
+pub fields-taken : (n most count : ℕ) → n ≤ most → fieldsOn (take n (replicate most count)) ≡ count * n
+fields-taken n most count h = ap fieldsOn (take-replicate n most count h) ∙ fields-replicate n count
+
+bytes-replicate : (n count : ℕ) → bytesOn (replicate n count) ≡ lineLength count * n
+bytes-replicate zero count = sym (mul-zero (lineLength count))
+bytes-replicate (suc n) count = rw (bytes-replicate n count, mul-suc) (add-comm (lineLength count) (lineLength count * n))
+
+-- ---- the lines of segments and of ages
+
+-- what the reader of all these lines leaves
+abbrev pub AnnouncedRead : List ℕ → ℕ → ℕ → List ℕ → List ℕ → ℕ → Type 0
+AnnouncedRead part segments ages old now wrong =
+    (wrong ≡ firstWrong (announcedOf segments ages part) (lineBehind segments ages))
+    × (now ≡ over (announcedOf segments ages part .numbers) old)
+
+-- the bytes of the lines of segments, and their numbers
+abbrev segmentBytes : ℕ → ℕ
+segmentBytes segments = lineLength perSegment * segments
+
+abbrev segmentNumbers : ℕ → ℕ
+segmentNumbers segments = perSegment * segments
+
+-- the lines of segments were read into a buffer
+pub record SegmentsRead (part old : List ℕ) (segments ages wrong : ℕ) (buffer : List ℕ) : Type 0 where
+  pub few : segments ≤ mostSegments
+  pub few-ages : ages ≤ mostAges
+  pub room : perSegment * segments + perAge * ages ≤ length old
+  pub read : LinesRead (readLines (take segments (replicate mostSegments perSegment)) firstSegmentLine firstSegmentField part)
+      old buffer wrong
+
+-- then those of ages
+pub record AgesRead (part : List ℕ) (segments ages : ℕ) (buffer : List ℕ) (wrong : ℕ) (after : List ℕ) : Type 0 where
+  pub read : LinesRead
+      (readLines (take ages (replicate mostAges perAge)) (firstSegmentLine + segments)
+      (firstSegmentField + segmentNumbers segments)
+      (take (length part - segmentBytes segments) (drop (segmentBytes segments) part)))
+      (midOf (segmentNumbers segments) (length buffer - segmentNumbers segments) buffer) after wrong
+
+module _ {part old : List ℕ} {segments ages wrong : ℕ} {buffer : List ℕ}
+    (first : SegmentsRead part old segments ages wrong buffer) where
+  abbrev ofSegments : Lines
+  ofSegments = readLines (replicate segments perSegment) firstSegmentLine firstSegmentField part
+
+  segments-read : LinesRead ofSegments old buffer wrong
+  segments-read = rw (take-replicate segments mostSegments perSegment (first .few)) at (first .read)
+
+  pub segment-wrong : 0 < wrong → AnnouncedRead part segments ages old buffer wrong
+  segment-wrong h =
+      let e = segments-read .0 in
+      let w : 0 < ofSegments .wrong = omega arith in
+      let stops : announcedOf segments ages part ≡ ofSegments =
+      readLines-stops (replicate segments perSegment) (replicate ages perAge) firstSegmentLine firstSegmentField part w in
+      (e ∙ sym (rw (stops, lt-ltb 0 (ofSegments .wrong) w)), segments-read .1 ∙ rw stops)
+
+  module _ (ok : wrong ≤ 0) where
+    no-wrong : ofSegments .wrong ≡ 0
+    no-wrong = let e = segments-read .0 in omega arith
+
+    good : Right (replicate segments perSegment) part ofSegments
+    good = lines-right (replicate segments perSegment) firstSegmentLine firstSegmentField part (omega arith) no-wrong
+
+    pub segments-long : segmentBytes segments ≤ length part
+    segments-long = let l = good .long in let b = bytes-replicate segments perSegment in omega arith
+
+    numbers-long : length (ofSegments .numbers) ≡ segmentNumbers segments
+    numbers-long = good .read ∙ fields-replicate segments perSegment
+
+    pub buffer-long : length buffer ≡ length old
+    buffer-long =
+        let n = numbers-long in
+        let r = first .room in
+        ap length (segments-read .1) ∙ length-over (ofSegments .numbers) old (omega arith)
+
+    module _ {wrong-age : ℕ} {after : List ℕ} (second : AgesRead part segments ages buffer wrong-age after) where
+      abbrev ofAges : Lines
+      ofAges =
+          readLines (replicate ages perAge) (firstSegmentLine + segments) (firstSegmentField + segmentNumbers segments)
+          (drop (segmentBytes segments) part)
+
+      abbrev lentPart : List ℕ
+      lentPart = midOf (segmentNumbers segments) (length buffer - segmentNumbers segments) buffer
+
+      abbrev written : List ℕ
+      written = putMid (segmentNumbers segments) (length buffer - segmentNumbers segments) buffer after
+
+      ages-read : LinesRead ofAges lentPart after wrong-age
+      ages-read =
+          rw (take-replicate ages mostAges perAge (first .few-ages), tail part (segmentBytes segments)) at (second .read)
+
+      all-is : announcedOf segments ages part ≡ andThen ofSegments ofAges
+      all-is =
+          readLines-append (replicate segments perSegment) (replicate ages perAge) firstSegmentLine firstSegmentField part
+          (omega arith) no-wrong
+          ∙ rw (
+            length-replicate segments perSegment,
+            fields-replicate segments perSegment,
+            good .rest,
+            bytes-replicate segments perSegment,
+          )
+
+      written-is : written ≡ over (announcedOf segments ages part .numbers) old
+      written-is =
+          lent (ofSegments .numbers) (ofAges .numbers) old buffer after (segmentNumbers segments)
+          (sym numbers-long) (segments-read .1) (ages-read .1)
+          ∙ ap (λ (l : Lines). over (l .numbers) old) (sym all-is)
+
+      pub age-wrong : 0 < wrong-age → AnnouncedRead part segments ages old written wrong-age
+      age-wrong h =
+          let e = ages-read .0 in
+          let w : 0 < ofAges .wrong = omega arith in
+          (e ∙ sym (rw (all-is, lt-ltb 0 (ofAges .wrong) w)), written-is)
+
+      module _ (ok-ages : wrong-age ≤ 0) where
+        no-wrong-age : ofAges .wrong ≡ 0
+        no-wrong-age = let e = ages-read .0 in omega arith
+
+        rest-long : length (ofAges .rest) ≡ length part - (segmentBytes segments + lineLength perAge * ages)
+        rest-long =
+            let behind = drop (segmentBytes segments) part in
+            let good-ages =
+            lines-right (replicate ages perAge) (firstSegmentLine + segments) (firstSegmentField + segmentNumbers segments) behind
+            (omega arith) no-wrong-age in
+            let b = bytes-replicate ages perAge in
+            let l = length-drop (bytesOn (replicate ages perAge)) behind in
+            let m = length-drop (segmentBytes segments) part in
+            ap length (good-ages .rest) ∙ (omega arith)
+
+        pub bytes-behind : segmentBytes segments + lineLength perAge * ages < length part
+            → AnnouncedRead part segments ages old written (lineBehind segments ages)
+        bytes-behind h =
+            let l = rest-long in
+            (sym (rw (all-is, no-wrong-age, lt-ltb 0 (length (ofAges .rest)) (omega arith))), written-is)
+
+        pub all-announced : length part ≤ segmentBytes segments + lineLength perAge * ages
+            → AnnouncedRead part segments ages old written 0
+        all-announced h =
+            let l = rest-long in
+            (sym (rw (all-is, no-wrong-age, le-ltb 0 (length (ofAges .rest)) (omega arith))), written-is)
+
+-- ---- the card
+
+-- what the reader of a card leaves
+abbrev pub CardRead : List ℕ → List ℕ → List ℕ → Reading → Type 0
+CardRead card old now reading = (reading ≡ cardOutcome card .reading) × (now ≡ over (cardOutcome card .numbers) old)
+
+by : (card old now : List ℕ) (outcome : Outcome) → cardOutcome card ≡ outcome → now ≡ over (outcome .numbers) old
+    → CardRead card old now (outcome .reading)
+by card old now outcome e is =
+    (ap (λ (o : Outcome). o .reading) (sym e), is ∙ ap (λ (o : Outcome). over (o .numbers) old) (sym e))
+
+abbrev headBytes : ℕ
+headBytes = bytesOn headLines
+
+-- the counts of a buffer
+abbrev segmentsOf : List ℕ → ℕ
+segmentsOf buffer = getD buffer (segmentsField - 1) 0
+
+abbrev agesOf : List ℕ → ℕ
+agesOf buffer = getD buffer (agesField - 1) 0
+
+-- lines 1 to 4 were read into a buffer
+pub record HeadRead (card old : List ℕ) (wrong : ℕ) (buffer : List ℕ) : Type 0 where
+  pub room : mostFields ≤ length old
+  pub read : LinesRead (head card) old buffer wrong
+
+module _ {card old : List ℕ} {wrong : ℕ} {buffer : List ℕ} (first : HeadRead card old wrong buffer) where
+  pub head-wrong : 0 < wrong → CardRead card old buffer (Not (Shape wrong))
+  unfolding cardOutcome
+  head-wrong h =
+      let e = first .read .0 in
+      by card old buffer (refused (Shape wrong) (head card .numbers))
+      (rw (lt-ltb 0 (head card .wrong) (omega arith), e)) (first .read .1)
+
+  module _ (ok : wrong ≤ 0) where
+    no-wrong-head : head card .wrong ≡ 0
+    no-wrong-head = let e = first .read .0 in omega arith
+
+    good-head : Right headLines card (head card)
+    good-head = lines-right headLines 1 1 card (omega arith) no-wrong-head
+
+    pub head-long : headBytes ≤ length card
+    head-long = good-head .long
+
+    number-is : (k : ℕ) → k < headFields → getD (head card .numbers) k 0 ≡ getD buffer k 0
+    number-is k h =
+        sym (rw (first .read .1) (List·getD-append (head card .numbers) _ 0 k (let n = good-head .read in omega arith)))
+
+    abbrev segments : ℕ
+    segments = segmentsOf buffer
+
+    abbrev ages : ℕ
+    ages = agesOf buffer
+
+    segments-are : segmentsIn (head card .numbers) ≡ segments
+    segments-are = number-is (segmentsField - 1) (omega arith)
+
+    ages-are : agesIn (head card .numbers) ≡ ages
+    ages-are = number-is (agesField - 1) (omega arith)
+
+    pub many-segments : mostSegments < segments → CardRead card old buffer (Not (Ranges segmentsField))
+    unfolding cardOutcome
+    many-segments h =
+        by card old buffer (refused (Ranges segmentsField) (head card .numbers))
+        (rw (no-wrong-head, segments-are, lt-ltb mostSegments segments h)) (first .read .1)
+
+    module _ (few : segments ≤ mostSegments) where
+      pub few-ages : ages < leastAges → CardRead card old buffer (Not (Ranges agesField))
+      unfolding cardOutcome
+      few-ages h =
+          by card old buffer (refused (Ranges agesField) (head card .numbers))
+          (rw (no-wrong-head, segments-are, le-ltb mostSegments segments few, ages-are, lt-ltb ages leastAges h)) (first .read .1)
+
+      module _ (enough : leastAges ≤ ages) where
+        pub many-ages : mostAges < ages → CardRead card old buffer (Not (Ranges agesField))
+        unfolding cardOutcome
+        many-ages h =
+            by card old buffer (refused (Ranges agesField) (head card .numbers))
+            (rw (
+              no-wrong-head,
+              segments-are,
+              le-ltb mostSegments segments few,
+              ages-are,
+              le-ltb ages leastAges enough,
+              lt-ltb mostAges ages h,
+            ))
+            (first .read .1)
+
+-- lines 1 to 4 are right, and the counts in range
+pub record CountsRead (card old buffer : List ℕ) : Type 0 where
+  pub wrong : ℕ
+  pub lines : HeadRead card old wrong buffer
+  pub ok : wrong ≤ 0
+  pub few : segmentsOf buffer ≤ mostSegments
+  pub enough : leastAges ≤ agesOf buffer
+  pub not-many : agesOf buffer ≤ mostAges
+
+-- then the lines that they announce were read
+pub record TailRead (card buffer : List ℕ) (wrong : ℕ) (after : List ℕ) : Type 0 where
+  pub read : AnnouncedRead (take (length card - headBytes) (drop headBytes card)) (segmentsOf buffer) (agesOf buffer)
+      (midOf headFields (length buffer - headFields) buffer) after wrong
+
+module _ {card old buffer : List ℕ} (first : CountsRead card old buffer) {wrong-line : ℕ} {after : List ℕ}
+    (second : TailRead card buffer wrong-line after) where
+  abbrev counted-segments : ℕ
+  counted-segments = segmentsOf buffer
+
+  abbrev counted-ages : ℕ
+  counted-ages = agesOf buffer
+
+  behind : AnnouncedRead (drop headBytes card) counted-segments counted-ages
+      (midOf headFields (length buffer - headFields) buffer) after wrong-line
+  behind = rw (tail card headBytes) at (second .read)
+
+  announced-is : announced card ≡ announcedOf counted-segments counted-ages (drop headBytes card)
+  announced-is =
+      rw (
+        segments-are (first .lines) (first .ok),
+        ages-are (first .lines) (first .ok),
+        good-head (first .lines) (first .ok) .rest,
+      )
+
+  abbrev all : List ℕ
+  all = head card .numbers ++ announced card .numbers
+
+  abbrev whole : List ℕ
+  whole = putMid headFields (length buffer - headFields) buffer after
+
+  whole-is : whole ≡ over all old
+  whole-is =
+      lent (head card .numbers) (announcedOf counted-segments counted-ages (drop headBytes card) .numbers) old buffer after
+      headFields
+      (sym (good-head (first .lines) (first .ok) .read)) (first .lines .read .1) (behind .1)
+      ∙ ap (λ (l : Lines). over (head card .numbers ++ l .numbers) old) (sym announced-is)
+
+  wrong-is : firstWrong (announced card) (lineBehind counted-segments counted-ages) ≡ wrong-line
+  wrong-is = ap (λ (l : Lines). firstWrong l (lineBehind counted-segments counted-ages)) announced-is ∙ sym (behind .0)
+
+  outcome-is : cardOutcome card
+      ≡ cond (ltb 0 (firstWrong (announced card) (lineBehind counted-segments counted-ages)))
+      (refused (Shape (firstWrong (announced card) (lineBehind counted-segments counted-ages))) all)
+      (accepted counted-segments counted-ages all)
+  unfolding cardOutcome
+  outcome-is =
+      rw (
+        no-wrong-head (first .lines) (first .ok),
+        segments-are (first .lines) (first .ok),
+        le-ltb mostSegments counted-segments (first .few),
+        ages-are (first .lines) (first .ok),
+        le-ltb counted-ages leastAges (first .enough),
+        le-ltb mostAges counted-ages (first .not-many),
+      )
+
+  pub announced-wrong : 0 < wrong-line → CardRead card old whole (Not (Shape wrong-line))
+  announced-wrong h =
+      by card old whole (refused (Shape wrong-line) all) (outcome-is ∙ rw (wrong-is, lt-ltb 0 wrong-line h)) whole-is
+
+  pub all-read : wrong-line ≤ 0 → CardRead card old whole (Fields counted-segments counted-ages)
+  all-read h =
+      by card old whole (accepted counted-segments counted-ages all) (outcome-is ∙ rw (wrong-is, le-ltb 0 wrong-line h)) whole-is

@@ -1,0 +1,151 @@
+-- A card: document 01, "The card", and the rows "card or list" and "ranges" of the refusals. Assumes nothing.
+use Prim.Native.Nat.{ℕ, zero, suc, _+_, _-_, _*_}
+use mathlib.Core.Bool.{Bool, true, false, _&&_, cond}
+use mathlib.Core.List.{List, [], _∷_, _++_}
+use lib.Dec.{leb, ltb, eqb}
+use lib.ListN.{length, getD, take, drop, replicate}
+use Rattle.ticks.specs.declared.Amount.{Amount}
+use Rattle.ticks.specs.declared.Amount.the-variants.{Of, Refused}
+use Rattle.card.specs.declared.Field.{Field}
+use Rattle.card.specs.declared.Field.the-variants.{Number, Blank, Wrong}
+use Rattle.fields.specs.declared.refusal.Refusal.the-variants.{Shape, Ranges}
+use Rattle.fields.specs.Layout.{slipField, blankSlip, segmentsField, agesField, mostSegments, agesOutOfRange}
+use Rattle.fields.specs.Layout.{columns, perSegment, perAge, firstSegmentField}
+use Rattle.fields.specs.Amounts.{numbersIn, allRead, Outcome, refused, accepted}
+
+-- ---- a field: "14-column fields, decimal digits right-justified behind spaces"
+
+abbrev pub space : ℕ
+space = 32
+
+abbrev pub isDigit : ℕ → Bool
+isDigit byte = leb 48 byte && leb byte 57
+
+-- the digits that are left, behind those that make `number`
+unfoldable pub digitsOf : ℕ → List ℕ → Field
+digitsOf number [] = Number number
+digitsOf number (byte ∷ bytes) = cond (isDigit byte) (digitsOf (number * 10 + (byte - 48)) bytes) Wrong
+
+-- how many spaces some bytes begin with
+unfoldable pub spacesIn : List ℕ → ℕ
+spacesIn [] = 0
+spacesIn (byte ∷ bytes) = cond (eqb byte space) (suc (spacesIn bytes)) 0
+
+-- a field's bytes: spaces alone, or digits behind spaces
+abbrev pub fieldOf : List ℕ → Field
+fieldOf bytes = cond (eqb (spacesIn bytes) (length bytes)) Blank (digitsOf 0 (drop (spacesIn bytes) bytes))
+
+-- the field whose first column is the front of some bytes; one that ends early is wrong
+abbrev pub fieldAt : List ℕ → Field
+fieldAt bytes = cond (ltb (length bytes) columns) Wrong (fieldOf (take columns bytes))
+
+-- "A blank slip field reads 256 ticks; no other field may be blank."
+abbrev pub amountOf : ℕ → Field → Amount
+amountOf field (Number number) = Of number
+amountOf field Blank = cond (eqb field slipField) (Of blankSlip) Refused
+amountOf field Wrong = Refused
+
+-- ---- a line: some fields, "each line ended by a line feed"
+
+abbrev pub lineFeed : ℕ
+lineFeed = 10
+
+abbrev pub lineLength : ℕ → ℕ
+lineLength count = columns * count + 1
+
+-- `count` fields at the front of some bytes, the first of them numbered `field`
+unfoldable pub amountsOf : ℕ → ℕ → List ℕ → List Amount
+amountsOf zero field bytes = []
+amountsOf (suc count) field bytes =
+    amountOf field (fieldOf (take columns bytes)) ∷ amountsOf count (suc field) (drop columns bytes)
+
+-- the line is all there and ends where it should; in one that does not no field is read
+abbrev pub isShaped : ℕ → List ℕ → Bool
+isShaped count bytes = leb (lineLength count) (length bytes) && eqb (getD bytes (columns * count) 0) lineFeed
+
+abbrev pub isRight : ℕ → ℕ → List ℕ → Bool
+isRight count field bytes = isShaped count bytes && allRead (amountsOf count field bytes)
+
+abbrev pub lineNumbers : ℕ → ℕ → List ℕ → List ℕ
+lineNumbers count field bytes = cond (isShaped count bytes) (numbersIn (amountsOf count field bytes)) []
+
+-- ---- lines
+
+-- what reading some lines gives: the numbers before the first wrong field, the first wrong or missing line (0: none), and the
+-- bytes behind the lines
+pub record Lines : Type 0 where
+  pub numbers : List ℕ
+  pub wrong : ℕ
+  pub rest : List ℕ
+
+-- lines of so many fields each; the first is line `line` and begins with field `field`
+unfoldable pub readLines : List ℕ → ℕ → ℕ → List ℕ → Lines
+unfolding amountsOf
+readLines [] line field bytes = record { numbers = []; wrong = 0; rest = bytes }
+readLines (count ∷ counts) line field bytes =
+    let later = readLines counts (suc line) (field + count) (drop (lineLength count) bytes) in
+    cond (isRight count field bytes)
+    (record { numbers = lineNumbers count field bytes ++ later .numbers; wrong = later .wrong; rest = later .rest })
+    (record { numbers = lineNumbers count field bytes; wrong = line; rest = bytes })
+
+-- how many fields some lines have
+abbrev pub fieldsOn : List ℕ → ℕ
+fieldsOn [] = 0
+fieldsOn (count ∷ counts) = count + fieldsOn counts
+
+-- ---- the card
+
+-- "Line 1" to "Line 4"
+abbrev pub headLines : List ℕ
+headLines = 7 ∷ 6 ∷ 5 ∷ 6 ∷ []
+
+-- lines 1 to 4
+abbrev pub head : List ℕ → Lines
+head card = readLines headLines 1 1 card
+
+-- "s lines" and "n lines"
+abbrev pub announcedLines : ℕ → ℕ → List ℕ
+announcedLines segments ages = replicate segments perSegment ++ replicate ages perAge
+
+abbrev pub firstSegmentLine : ℕ
+firstSegmentLine = 5
+
+-- the line behind the last due one
+abbrev pub lineBehind : ℕ → ℕ → ℕ
+lineBehind segments ages = firstSegmentLine + segments + ages
+
+-- these lines at the front of some bytes
+abbrev pub announcedOf : ℕ → ℕ → List ℕ → Lines
+announcedOf segments ages bytes = readLines (announcedLines segments ages) firstSegmentLine firstSegmentField bytes
+
+-- "the counts in fields 23 and 24"
+abbrev pub segmentsIn : List ℕ → ℕ
+segmentsIn numbers = getD numbers (segmentsField - 1) 0
+
+abbrev pub agesIn : List ℕ → ℕ
+agesIn numbers = getD numbers (agesField - 1) 0
+
+-- line 5 on
+abbrev pub announced : List ℕ → Lines
+announced card = announcedOf (segmentsIn (head card .numbers)) (agesIn (head card .numbers)) (head card .rest)
+
+-- "Bytes after the last due line are one line more, a wrong one."
+abbrev pub firstWrong : Lines → ℕ → ℕ
+firstWrong lines behind = cond (ltb 0 (lines .wrong)) (lines .wrong) (cond (ltb 0 (length (lines .rest))) behind 0)
+
+-- "first wrong or missing line"
+abbrev pub unlessWrong : ℕ → List ℕ → Outcome → Outcome
+unlessWrong line numbers outcome = cond (ltb 0 line) (refused (Shape line) numbers) outcome
+
+-- What a card gives. "the counts in fields 23 and 24 are ranged while the shape is read, giving 2 .., field 23 wholly before 24"
+unfoldable pub cardOutcome : List ℕ → Outcome
+unfolding readLines
+cardOutcome card =
+    let first = head card .numbers in
+    let segments = segmentsIn first in
+    let ages = agesIn first in
+    let all = first ++ announced card .numbers in
+    unlessWrong (head card .wrong) first
+    (cond (ltb mostSegments segments) (refused (Ranges segmentsField) first)
+    (cond (agesOutOfRange ages) (refused (Ranges agesField) first)
+    (unlessWrong (firstWrong (announced card) (lineBehind segments ages)) all (accepted segments ages all))))

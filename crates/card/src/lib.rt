@@ -1,0 +1,268 @@
+// The reader of cards.
+ghost use mathlib.Core.Path.{_≡_};
+ghost use Prim.Native.Nat.{_+_, _*_, _^_, _≤_, _<_};
+ghost use lib.ListN.{length, take, drop};
+ghost use Rattle.fields.specs.Layout.{mostFields, mostSegments, mostAges, perSegment, perAge};
+ghost use Rattle.fields.specs.Amounts.{over};
+ghost use Rattle.fields.specs.Layout.{columns};
+ghost use Rattle.card.specs.Card.{spacesIn, digitsOf, fieldAt, amountOf, isRight, lineNumbers};
+ghost use Rattle.card.specs.Card.{readLines, fieldsOn, announcedOf, lineBehind, firstWrong, cardOutcome};
+use fields::layout::AGES;
+use fields::layout::HEAD_FIELDS;
+use fields::layout::LEAST_AGES;
+use fields::layout::MOST_AGES;
+use fields::layout::MOST_FIELDS;
+use fields::layout::MOST_SEGMENTS;
+use fields::layout::PER_AGE;
+use fields::layout::PER_SEGMENT;
+use fields::layout::SEGMENTS;
+use fields::layout::SLIP;
+use fields::refusal::Reading;
+use fields::refusal::Refusal;
+use ticks::Amount;
+
+// What stands in a field's 14 columns.
+pub enum Field {
+    Number(u64),
+    Blank,
+    Wrong,
+}
+
+const COLUMNS: usize = 14;
+
+const SPACE: u8 = b' ';
+
+const ZERO: u8 = b'0';
+
+const NINE: u8 = b'9';
+
+const LINE_FEED: u8 = b'\n';
+
+// What a blank slip reads, in ticks.
+const BLANK_SLIP: u64 = 256;
+
+// The bytes of lines 1 to 4. The first line of a segment, and its first field.
+const HEAD_BYTES: usize = 340;
+
+const SEGMENT_LINE: usize = 5;
+
+const SEGMENT_FIELD: usize = 25;
+
+fn wide(byte: u8) -> u64
+    ensures { λ r. ⌜ r ≡ byte ⌝ }
+{
+    byte as u64
+}
+
+// How many spaces a field begins with.
+fn leading_spaces(part: &[u8]) -> usize
+    requires { ⌜ columns ≤ length (now part) ⌝ }
+    ensures { λ r. ⌜ r ≡ spacesIn (take columns (now (part .entry))) ⌝ }
+{
+    let mut column = 0usize;
+    while column < COLUMNS {
+        if part[column] != SPACE {
+            return column;
+        }
+        column += 1;
+    }
+    column
+}
+
+// The number whose digits stand from column `first` of a field on.
+fn digits(part: &[u8], first: usize) -> Field
+    requires { ⌜ columns ≤ length (now part) ⌝ }
+    ensures { λ r. ⌜ r ≡ digitsOf 0 (drop first (take columns (now (part .entry)))) ⌝ }
+{
+    let mut number = 0u64;
+    let mut column = first;
+    while column < COLUMNS {
+        let byte = part[column];
+        if byte < ZERO {
+            return Field::Wrong;
+        }
+        if NINE < byte {
+            return Field::Wrong;
+        }
+        number = number * 10 + wide(byte - ZERO);
+        column += 1;
+    }
+    Field::Number(number)
+}
+
+// The field whose first column is the front of `part`.
+pub fn read_field(part: &[u8]) -> Field
+    ensures { λ r. ⌜ r ≡ fieldAt (now (part .entry)) ⌝ }
+{
+    if part.len() < COLUMNS {
+        return Field::Wrong;
+    }
+    let first = leading_spaces(part);
+    if first == COLUMNS {
+        return Field::Blank;
+    }
+    digits(part, first)
+}
+
+// What field number `field` reads.
+fn amount_of(field: usize, found: Field) -> Amount
+    ensures { λ r. ⌜ r ≡ amountOf field found ⌝ }
+{
+    match found {
+        Field::Number(number) => Amount::Of(number),
+        Field::Blank => {
+            if field == SLIP {
+                Amount::Of(BLANK_SLIP)
+            } else {
+                Amount::Refused
+            }
+        }
+        Field::Wrong => Amount::Refused,
+    }
+}
+
+// The line at the front of `part`: `count` fields, the first of them numbered `field`. Whether it is right; the numbers before
+// its first wrong field are written at the front of `fields`.
+fn read_line(part: &[u8], count: usize, field: usize, fields: &mut [u64]) -> bool
+    requires { ⌜ count ≤ length (now fields) ⌝ }
+    requires { ⌜ field + count < 2 ^ 64 ⌝ }
+    ensures { λ r. ⌜ r ≡ isRight count field (now (part .entry)) ⌝ }
+    ensures { λ r. ⌜ now (fields .exit) ≡ over (lineNumbers count field (now (part .entry))) (now (fields .entry)) ⌝ }
+{
+    let end = COLUMNS * count;
+    if part.len() <= end {
+        return false;
+    }
+    if part[end] != LINE_FEED {
+        return false;
+    }
+    let mut done = 0usize;
+    let mut at = 0usize;
+    while done < count {
+        let Amount::Of(number) = amount_of(field + done, read_field(&part[at..])) else {
+            return false;
+        };
+        fields[done] = number;
+        done += 1;
+        at += COLUMNS;
+    }
+    true
+}
+
+// Lines of `counts` fields each, from the front of `part` on; the first is line `line` and begins with field `field`. The first
+// wrong line, or 0; the numbers before the first wrong field are written at the front of `fields`.
+fn read_lines(part: &[u8], counts: &[usize], line: usize, field: usize, fields: &mut [u64]) -> usize
+    requires { ⌜ fieldsOn (now counts) ≤ length (now fields) ⌝ }
+    requires { ⌜ (0 < line) × (line ≤ mostFields) ⌝ }
+    requires { ⌜ field ≤ mostFields ⌝ }
+    ensures { λ r. ⌜ r ≡ readLines (now (counts .entry)) line field (now (part .entry)) .wrong ⌝ }
+    ensures { λ r. ⌜ now (fields .exit) ≡ over (readLines (now (counts .entry)) line field (now (part .entry)) .numbers) (now (fields .entry)) ⌝ }
+{
+    let mut done = 0usize;
+    let mut at = 0usize;
+    let mut read = 0usize;
+    while done < counts.len() {
+        let count = counts[done];
+        if !read_line(&part[at..], count, field + read, &mut fields[read..]) {
+            return line + done;
+        }
+        at += COLUMNS * count + 1;
+        read += count;
+        done += 1;
+    }
+    0
+}
+
+// The lines of segments and of ages, which end the card. The first wrong line, or 0.
+fn read_announced(part: &[u8], segments: usize, ages: usize, fields: &mut [u64]) -> usize
+    requires { ⌜ segments ≤ mostSegments ⌝ }
+    requires { ⌜ ages ≤ mostAges ⌝ }
+    requires { ⌜ perSegment * segments + perAge * ages ≤ length (now fields) ⌝ }
+    ensures { λ r. ⌜ r ≡ firstWrong (announcedOf segments ages (now (part .entry))) (lineBehind segments ages) ⌝ }
+    ensures { λ r. ⌜ now (fields .exit) ≡ over (announcedOf segments ages (now (part .entry)) .numbers) (now (fields .entry)) ⌝ }
+{
+    let of_segments = [PER_SEGMENT; MOST_SEGMENTS];
+    let wrong = read_lines(
+        part,
+        &of_segments[..segments],
+        SEGMENT_LINE,
+        SEGMENT_FIELD,
+        fields,
+    );
+    if 0 < wrong {
+        return wrong;
+    }
+    let at = (COLUMNS * PER_SEGMENT + 1) * segments;
+    let line = SEGMENT_LINE + segments;
+    let read = PER_SEGMENT * segments;
+    let of_ages = [PER_AGE; MOST_AGES];
+    let wrong = read_lines(
+        &part[at..],
+        &of_ages[..ages],
+        line,
+        SEGMENT_FIELD + read,
+        &mut fields[read..],
+    );
+    if 0 < wrong {
+        return wrong;
+    }
+    if at + (COLUMNS * PER_AGE + 1) * ages < part.len() {
+        return line + ages;
+    }
+    0
+}
+
+fn wrong_line(line: usize) -> Reading
+    ensures { λ r. ⌜ r ≡ Reading.Not (Refusal.Shape line) ⌝ }
+{
+    Reading::Not(Refusal::Shape(line as u64))
+}
+
+fn out_of_range(field: usize) -> Reading
+    ensures { λ r. ⌜ r ≡ Reading.Not (Refusal.Ranges field) ⌝ }
+{
+    Reading::Not(Refusal::Ranges(field as u64))
+}
+
+// What a card gives; the numbers before its first wrong field are written at the front of `fields`.
+fn read_into(card: &[u8], fields: &mut [u64]) -> Reading
+    requires { ⌜ mostFields ≤ length (now fields) ⌝ }
+    ensures { λ r. ⌜ r ≡ cardOutcome (now (card .entry)) .reading ⌝ }
+    ensures { λ r. ⌜ now (fields .exit) ≡ over (cardOutcome (now (card .entry)) .numbers) (now (fields .entry)) ⌝ }
+{
+    let head = [7usize, 6, 5, 6];
+    let wrong = read_lines(card, &head, 1, 1, fields);
+    if 0 < wrong {
+        return wrong_line(wrong);
+    }
+    let segments = fields[SEGMENTS - 1] as usize;
+    if MOST_SEGMENTS < segments {
+        return out_of_range(SEGMENTS);
+    }
+    let ages = fields[AGES - 1] as usize;
+    if ages < LEAST_AGES {
+        return out_of_range(AGES);
+    }
+    if MOST_AGES < ages {
+        return out_of_range(AGES);
+    }
+    let wrong = read_announced(
+        &card[HEAD_BYTES..],
+        segments,
+        ages,
+        &mut fields[HEAD_FIELDS..],
+    );
+    if 0 < wrong {
+        return wrong_line(wrong);
+    }
+    Reading::Fields(segments as u64, ages as u64)
+}
+
+// What a card gives; the numbers before its first wrong field are written at the front of `fields`, which has room for every
+// card.
+pub fn read_card(card: &[u8], fields: &mut [u64; MOST_FIELDS]) -> Reading
+    ensures { λ r. ⌜ r ≡ cardOutcome (now (card .entry)) .reading ⌝ }
+    ensures { λ r. ⌜ now (fields .exit) ≡ over (cardOutcome (now (card .entry)) .numbers) (now (fields .entry)) ⌝ }
+{
+    read_into(card, fields)
+}

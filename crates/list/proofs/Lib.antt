@@ -1,0 +1,5 @@
+pub mod Laws
+mod Numbers
+mod Fields
+mod Counting
+mod Outcome
