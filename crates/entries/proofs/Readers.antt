@@ -9,8 +9,8 @@ use Rattle.fields.specs.declared.refusal.Reading.{Reading}
 use Rattle.fields.specs.declared.refusal.Reading.the-variants.{Fields, Not}
 use Rattle.fields.specs.Layout.{mostFields, mostSegments, leastAges, mostAges}
 use Rattle.fields.specs.Amounts.{over}
-use Rattle.member.specs.Quantities.{agesOf}
-use Rattle.member.specs.Readable.{Small, Readable}
+use Rattle.checks.specs.Quantities.{agesOf}
+use Rattle.checks.specs.Readable.{Small, Readable}
 use Rattle.member.specs.Member.{checkedOf}
 use Rattle.losses.specs.declared.Answer.the-variants.{Refused}
 use Rattle.losses.specs.Run.{resultOfChecked, resultOfReading, Ran}

@@ -8,11 +8,11 @@ use Rattle.coefficient.specs.declared.codes.Cure.{Cure}
 use Rattle.coefficient.specs.declared.codes.Concrete.{Concrete}
 use Rattle.coefficient.proofs.Laws.{ucr-range, scf-range, mcf-range, ush-range, ssf-range}
 use Rattle.member.specs.declared.Member.{Member}
-use Rattle.member.specs.Quantities.{Age, agesOf, ownWeightMoment}
+use Rattle.checks.specs.Quantities.{Age, agesOf, ownWeightMoment}
 use Rattle.member.specs.Constants.{wholeCreep, wholeShrinkage}
 use Rattle.member.specs.declared.Checked.the-variants.{Accepted}
-use Rattle.member.specs.Readable.{Readable}
-use Rattle.member.specs.Rows.{perRow}
+use Rattle.checks.specs.Readable.{Readable}
+use Rattle.checks.specs.Rows.{perRow}
 use Rattle.member.specs.Member.{memberOf, checkedOf}
 use Rattle.member.specs.Facts.{RisingFrom, rises, MomentsWithin, adds, Facts}
 use Rattle.member.proofs.Laws.{accepted}

@@ -13,8 +13,8 @@ use Rattle.ticks.specs.Doubles.{ticksPerUnit}
 use Rattle.fields.specs.declared.refusal.Refusal.{Refusal}
 use Rattle.fields.specs.declared.refusal.Refusal.the-variants.{Stress as StressRefusal}
 use Rattle.member.specs.declared.Member.{Member}
-use Rattle.member.specs.Quantities.{Age}
-use Rattle.member.specs.Rows.{perRow}
+use Rattle.checks.specs.Quantities.{Age}
+use Rattle.checks.specs.Rows.{perRow}
 use Rattle.losses.specs.declared.Stress.{Stress}
 use Rattle.losses.specs.declared.Stress.the-variants.{Left, Gone}
 use Rattle.losses.specs.declared.BeforeAges.{BeforeAges}

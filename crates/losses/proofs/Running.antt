@@ -12,8 +12,8 @@ use borrow.Rule.Slice.PartMut.{midOf, putMid}
 use Rattle.fields.specs.Layout.{headFields, perSegment, perAge}
 use Rattle.fields.specs.Amounts.{over}
 use Rattle.member.specs.declared.Member.{Member}
-use Rattle.member.specs.Quantities.{Age, agesFrom, agesOf}
-use Rattle.member.specs.Rows.{perRow}
+use Rattle.checks.specs.Quantities.{Age, agesFrom, agesOf}
+use Rattle.checks.specs.Rows.{perRow}
 use Rattle.losses.specs.declared.Stress.{Stress}
 use Rattle.losses.specs.declared.Stress.the-variants.{Left, Gone}
 use Rattle.losses.specs.declared.ends.End.{End}

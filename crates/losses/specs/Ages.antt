@@ -5,7 +5,7 @@ use Rattle.logarithm.specs.Logarithm.{serviceLife}
 use Rattle.coefficient.specs.Clocks.{sinceTransfer, sinceCuring}
 use Rattle.coefficient.specs.Coefficients.{creepShare, shrinkageShare}
 use Rattle.member.specs.declared.Member.{Member}
-use Rattle.member.specs.Quantities.{Age}
+use Rattle.checks.specs.Quantities.{Age}
 use Rattle.steps.specs.Steps.{creepLoss, shrinkageLoss, relaxationLoss}
 use Rattle.losses.specs.declared.Stress.{Stress}
 use Rattle.losses.specs.declared.Stress.the-variants.{Left, Gone}

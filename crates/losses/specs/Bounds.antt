@@ -4,8 +4,8 @@ use Prim.Native.Nat.{ℕ, _+_, _^_, _≤_, _<_}
 use mathlib.Core.List.{List, [], _∷_}
 use Rattle.logarithm.specs.Logarithm.{serviceLife}
 use Rattle.member.specs.declared.Member.{Member}
-use Rattle.member.specs.Quantities.{Age}
-use Rattle.member.specs.Rows.{mostMoment, mostKappa}
+use Rattle.checks.specs.Quantities.{Age}
+use Rattle.checks.specs.Rows.{mostMoment, mostKappa}
 use Rattle.fields.specs.Layout.{mostSegments, mostAges}
 
 pub record Bounded (m : Member) : Type 0 where

@@ -6,7 +6,7 @@ use mathlib.Core.List.{List, [], _∷_}
 use lib.ListN.{length}
 use Rattle.coefficient.specs.Tables.{T}
 use Rattle.member.specs.declared.Member.{Member}
-use Rattle.member.specs.Rows.{perRow}
+use Rattle.checks.specs.Rows.{perRow}
 use Rattle.fields.specs.Amounts.{over}
 use Rattle.steps.specs.Steps.{concreteStress, creepLoss, shrinkageLoss, relaxationLoss}
 use Rattle.losses.specs.declared.Stress.{Stress}

@@ -16,7 +16,7 @@ use Rattle.fields.specs.Amounts.{over}
 use Rattle.member.specs.declared.Member.{Member}
 use Rattle.member.specs.declared.Checked.{Checked}
 use Rattle.member.specs.declared.Checked.the-variants.{Accepted, Refused}
-use Rattle.member.specs.Quantities.{Age, agesOf}
+use Rattle.checks.specs.Quantities.{Age, agesOf}
 use Rattle.member.specs.Member.{checkedOf}
 use Rattle.losses.specs.declared.Stress.{Stress}
 use Rattle.losses.specs.declared.Stress.the-variants.{Left, Gone}

@@ -4,7 +4,7 @@ ghost use Prim.Native.Nat.{_*_, _^_, _≤_, _<_};
 ghost use lib.ListN.{length};
 ghost use Rattle.logarithm.specs.Logarithm.{IsTable};
 ghost use Rattle.fields.specs.Amounts.{over};
-ghost use Rattle.member.specs.Quantities.{agesOf};
+ghost use Rattle.checks.specs.Quantities.{agesOf};
 ghost use Rattle.losses.specs.Bounds.{Bounded, AgesBounded};
 ghost use Rattle.losses.specs.Ages.{agedFrom};
 ghost use Rattle.losses.specs.Intervals.{transferEnd, lossesBetween, passed, rowBy, EndBounded, RanAges};
@@ -13,13 +13,13 @@ use crate::Stress;
 use crate::before;
 use crate::ends;
 use crate::ends::End;
+use checks::buffers::PER_ROW;
 use fields::layout::HEAD_FIELDS;
 use fields::layout::MOST_FIELDS;
 use fields::layout::PER_AGE;
 use fields::layout::PER_SEGMENT;
 use logarithm::ENTRIES;
 use member::Member;
-use member::buffers::PER_ROW;
 
 pub struct Losses {
     pub creep: u64,

@@ -3,8 +3,8 @@ ghost use mathlib.Core.Path.{_≡_};
 ghost use mathlib.Core.List.{_++_};
 ghost use Prim.Native.Nat.{_*_, _≤_};
 ghost use lib.ListN.{length, take, drop};
-ghost use Rattle.member.specs.Quantities.{agesOf};
-ghost use Rattle.member.specs.Readable.{Readable};
+ghost use Rattle.checks.specs.Quantities.{agesOf};
+ghost use Rattle.checks.specs.Readable.{Readable};
 ghost use Rattle.losses.specs.Bounds.{Bounded, AgesBounded};
 ghost use Rattle.losses.specs.Run.{memberResult, resultOfReading, Ran};
 
@@ -13,12 +13,12 @@ pub mod before;
 pub mod ends;
 
 use ages::LastStress;
+use checks::buffers::PER_ROW;
 use fields::layout::MOST_FIELDS;
 use fields::refusal::Reading;
 use fields::refusal::Refusal;
 use member::Checked;
 use member::Member;
-use member::buffers::PER_ROW;
 
 // What a loss leaves of a stress, in ticks.
 pub enum Stress {

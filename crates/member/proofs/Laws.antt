@@ -14,21 +14,21 @@ use Rattle.logarithm.specs.Logarithm.{serviceLife}
 use Rattle.member.specs.declared.Member.{Member}
 use Rattle.member.specs.declared.Checked.{Checked}
 use Rattle.member.specs.declared.Checked.the-variants.{Accepted, Refused}
-use Rattle.member.specs.Quantities.{kindCode, steelCode, ultimateStrength, jackingStress, deflectorLoss, slip}
-use Rattle.member.specs.Quantities.{tendonLength, cureCode, concreteCode, Es, Eci, Ec, volumeToSurface, area, inertia}
-use Rattle.member.specs.Quantities.{eccentricity, steelArea, ownWeightMoment, endOfCuring, transfer, wobble, curvature}
-use Rattle.member.specs.Quantities.{Segment, segmentsOf, Age, agesOf}
-use Rattle.member.specs.Rows.{firstFailing, within, headCodes, segmentCodes, codes, isPretensioned, isMoist, mostMoment}
-use Rattle.member.specs.Rows.{rangesOfLine1, rangesOfLine2, rangesOfLine3, rangesOfLine4, rangesOfSegments}
-use Rattle.member.specs.Rows.{rangesOfMoments, ranges, hoursOfAges, hours, duct, mostFriction, buffers, perRow, mostKappa}
-use Rattle.member.specs.Rows.{mostCreepOfKappa}
+use Rattle.checks.specs.Quantities.{kindCode, steelCode, ultimateStrength, jackingStress, deflectorLoss, slip}
+use Rattle.checks.specs.Quantities.{tendonLength, cureCode, concreteCode, Es, Eci, Ec, volumeToSurface, area, inertia}
+use Rattle.checks.specs.Quantities.{eccentricity, steelArea, ownWeightMoment, endOfCuring, transfer, wobble, curvature}
+use Rattle.checks.specs.Quantities.{Segment, segmentsOf, Age, agesOf}
+use Rattle.checks.specs.Rows.{firstFailing, within, headCodes, segmentCodes, codes, isPretensioned, isMoist, mostMoment}
+use Rattle.checks.specs.Rows.{rangesOfLine1, rangesOfLine2, rangesOfLine3, rangesOfLine4, rangesOfSegments}
+use Rattle.checks.specs.Rows.{rangesOfMoments, ranges, hoursOfAges, hours, duct, mostFriction, buffers, perRow, mostKappa}
+use Rattle.checks.specs.Rows.{mostCreepOfKappa}
 use Rattle.member.specs.Member.{frictionOf, kappaOf, creepOf, memberOf, unlessFails, checkedOf}
 use Rattle.member.specs.Facts.{SegmentFits, SegmentsFit, no-segment, segment-fits, PathFits, HeadFits, RisingFrom, no-age}
 use Rattle.member.specs.Facts.{rises, MomentsWithin, no-moment, adds, Facts}
-use Rattle.member.proofs.Rows.{none, more}
-use Rattle.member.proofs.RowPlaces.{head-codes-placed, segment-codes-placed, line-1-placed, line-2-placed, line-3-placed}
-use Rattle.member.proofs.RowPlaces.{line-4-placed, segment-ranges-placed, moment-ranges-placed, age-hours-placed}
-use Rattle.member.proofs.Holding.{Holds, all-hold, part-holds, both-true, other-true, asked-true, in-range}
+use Rattle.checks.proofs.Rows.{none, more}
+use Rattle.checks.proofs.RowPlaces.{head-codes-placed, segment-codes-placed, line-1-placed, line-2-placed, line-3-placed}
+use Rattle.checks.proofs.RowPlaces.{line-4-placed, segment-ranges-placed, moment-ranges-placed, age-hours-placed}
+use Rattle.checks.proofs.Holding.{Holds, all-hold, part-holds, both-true, other-true, asked-true, in-range}
 
 -- ---- segments and ages, along their lists
 

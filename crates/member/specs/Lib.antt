@@ -1,9 +1,5 @@
-pub mod Quantities
 pub mod Friction
 pub mod Constants
-pub mod Rows
-pub mod Readable
-pub mod Parts
 pub mod Member
 pub mod Facts
 pub mod Stages

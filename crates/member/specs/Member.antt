@@ -16,14 +16,14 @@ use Rattle.member.specs.declared.Steel.the-variants.{StressRelieved, Low
 use Rattle.member.specs.declared.Member.{Member}
 use Rattle.member.specs.declared.Checked.{Checked}
 use Rattle.member.specs.declared.Checked.the-variants.{Accepted, Refused}
-use Rattle.member.specs.Quantities.{kindCode, steelCode, ultimateStrength, jackingStress, deflectorLoss, slip}
-use Rattle.member.specs.Quantities.{tendonLength, cureCode, concreteCode, Es, Eci, Ec, volumeToSurface, area, inertia}
-use Rattle.member.specs.Quantities.{eccentricity, steelArea, ownWeightMoment, endOfCuring, transfer, wobble, curvature}
-use Rattle.member.specs.Quantities.{segmentsOf}
+use Rattle.checks.specs.Quantities.{kindCode, steelCode, ultimateStrength, jackingStress, deflectorLoss, slip}
+use Rattle.checks.specs.Quantities.{tendonLength, cureCode, concreteCode, Es, Eci, Ec, volumeToSurface, area, inertia}
+use Rattle.checks.specs.Quantities.{eccentricity, steelArea, ownWeightMoment, endOfCuring, transfer, wobble, curvature}
+use Rattle.checks.specs.Quantities.{segmentsOf}
 use Rattle.member.specs.Friction.{pathFriction}
 use Rattle.member.specs.Constants.{kappa, wholeCreep, wholeShrinkage}
-use Rattle.member.specs.Rows.{firstFailing, codes, ranges, hours, duct, isPretensioned, buffers, mostKappa}
-use Rattle.member.specs.Rows.{mostCreepOfKappa}
+use Rattle.checks.specs.Rows.{firstFailing, codes, ranges, hours, duct, isPretensioned, buffers, mostKappa}
+use Rattle.checks.specs.Rows.{mostCreepOfKappa}
 
 -- "kind (1 pretensioned, 2 post-tensioned)", "steel (1 stress-relieved, 2 low-relaxation)", "cure (1 moist, 2 accelerated)",
 -- "concrete (1 normal, 2 lightweight)"

@@ -6,7 +6,7 @@ use lib.Dec.{ltb}
 use Rattle.fields.specs.declared.refusal.Refusal.the-variants.{Duct, Buffers, Section, Creep}
 use Rattle.member.specs.declared.Checked.{Checked}
 use Rattle.member.specs.declared.Checked.the-variants.{Accepted, Refused}
-use Rattle.member.specs.Rows.{firstFailing, duct, isPretensioned, buffers, mostKappa, mostCreepOfKappa}
+use Rattle.checks.specs.Rows.{firstFailing, duct, isPretensioned, buffers, mostKappa, mostCreepOfKappa}
 use Rattle.member.specs.Member.{frictionOf, kappaOf, creepOf, memberOf, unlessFails}
 
 unfoldable pub fromSection : ℕ → ℕ → List ℕ → Checked

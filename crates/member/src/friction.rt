@@ -1,14 +1,12 @@
 // X, the friction of a path.
 ghost use mathlib.Core.Path.{_≡_};
 ghost use Prim.Native.Nat.{_≤_};
-ghost use Rattle.member.specs.Quantities.{wobble, curvature};
-ghost use Rattle.member.specs.Rows.{firstFailing, duct};
+ghost use Rattle.checks.specs.Quantities.{wobble, curvature};
 ghost use Rattle.member.specs.Friction.{wobblePart, curvaturePart};
-ghost use Rattle.member.specs.Parts.{segment};
+ghost use Rattle.checks.specs.Parts.{segment};
 ghost use Rattle.member.specs.Facts.{SegmentFits, PathFits, mostPart};
 ghost use Rattle.member.specs.Member.{frictionOf};
-use crate::places;
-use crate::row;
+use checks::places;
 use coefficient::tables::T;
 use fields::layout::HEAD_FIELDS;
 use fields::layout::MOST_FIELDS;
@@ -16,8 +14,6 @@ use fields::layout::PER_SEGMENT;
 use ticks::TICKS_PER_UNIT;
 
 const MILLION: u64 = 1_000_000;
-
-const MOST_FRICTION: u64 = 5_033_164;
 
 fn wobble_part(wobble: u64, kind: u64, length: u64, rise: u64) -> u64
     requires { ⌜ (wobble ≤ 2000) × SegmentFits (segment kind length rise) ⌝ }
@@ -57,12 +53,4 @@ pub fn path_friction(fields: &[u64; MOST_FIELDS], segments: usize) -> u64
         segment += 1;
     }
     friction
-}
-
-// Row "duct".
-pub fn first_failing(pretensioned: bool, segments: u64, friction: u64) -> u64
-    ensures { λ r. ⌜ r ≡ firstFailing (duct pretensioned segments friction) ⌝ }
-{
-    let failing = row::first(0, 1, row::implies(pretensioned, segments == 0));
-    row::first(failing, 2, friction <= MOST_FRICTION)
 }

@@ -1,20 +1,16 @@
 // From numbered fields to an accepted member, or its refusal: codes, ranges, hours, duct, buffers, section and creep.
 ghost use mathlib.Core.Path.{_≡_};
 ghost use Prim.Native.Nat.{_≤_};
-ghost use Rattle.member.specs.Readable.{Readable};
+ghost use Rattle.checks.specs.Readable.{Readable};
 ghost use Rattle.member.specs.Facts.{HeadFits, PathFits, mostCreep, hoursOf};
 ghost use Rattle.member.specs.Member.{frictionOf, kappaOf, creepOf, shrinkageOf, memberOf, checkedOf};
 ghost use Rattle.member.specs.Stages.{fromDuct, fromSection};
 
-pub mod buffers;
 pub mod codes;
 pub mod friction;
-pub mod hours;
-pub mod places;
-pub mod ranges;
-pub mod row;
 pub mod section;
 
+use checks::places;
 use coefficient::clocks::MemberHours;
 use fields::layout::MOST_FIELDS;
 use fields::refusal::Refusal;
@@ -167,11 +163,11 @@ fn check_path(
 {
     let friction = friction::path_friction(fields, segments as usize);
     let pretensioned = fields[places::KIND] == places::PRETENSIONED;
-    let failing = friction::first_failing(pretensioned, segments, friction);
+    let failing = checks::duct::first_failing(pretensioned, segments, friction);
     if failing != 0 {
         return Checked::Refused(Refusal::Duct(failing));
     }
-    let failing = buffers::first_failing(ages as usize, report, scratch);
+    let failing = checks::buffers::first_failing(ages as usize, report, scratch);
     if failing != 0 {
         return Checked::Refused(Refusal::Buffers(failing));
     }
@@ -190,15 +186,15 @@ pub fn check_member(
     requires { ⌜ Readable segments ages (now fields) ⌝ }
     ensures { λ r. ⌜ r ≡ checkedOf segments ages (now (fields .entry)) report scratch ⌝ }
 {
-    let failing = codes::first_failing(fields, segments as usize);
+    let failing = checks::codes::first_failing(fields, segments as usize);
     if failing != 0 {
         return Checked::Refused(Refusal::Codes(failing));
     }
-    let failing = ranges::first_failing(fields, segments as usize, ages as usize);
+    let failing = checks::ranges::first_failing(fields, segments as usize, ages as usize);
     if failing != 0 {
         return Checked::Refused(Refusal::Ranges(failing));
     }
-    let failing = hours::first_failing(fields, segments as usize, ages as usize);
+    let failing = checks::hours::first_failing(fields, segments as usize, ages as usize);
     if failing != 0 {
         return Checked::Refused(Refusal::Hours(failing));
     }

@@ -5,6 +5,7 @@ ghost use lib.ListN.{length};
 ghost use Rattle.fields.specs.Layout.{columns};
 ghost use Rattle.io.specs.Counts.{Counts};
 ghost use Rattle.printing.specs.Sizes.{mostBytes, mostRoom};
+use checks::buffers::PER_ROW;
 use fields::layout::HEAD_FIELDS;
 use fields::layout::MOST_AGES;
 use fields::layout::MOST_FIELDS;
@@ -16,7 +17,6 @@ use fields::refusal::Refusal;
 use libc::STDOUT_FILENO;
 use losses::Answer;
 use losses::BeforeAges;
-use member::buffers::PER_ROW;
 
 const COLUMNS: usize = 14;
 

@@ -9,9 +9,9 @@ use Rattle.logarithm.specs.Logarithm.{logarithm}
 use Rattle.coefficient.specs.Coefficients.{scf, ssf, mcf, ucr, ush, creepShare, shrinkageShare}
 use Rattle.fields.specs.Amounts.{numbersIn}
 use Rattle.card.specs.Card.{cardOutcome, digitsOf, spacesIn}
-use Rattle.member.specs.Quantities.{segmentsFrom, agesFrom}
+use Rattle.checks.specs.Quantities.{segmentsFrom, agesFrom}
 use Rattle.member.specs.Friction.{pathFriction}
-use Rattle.member.specs.Rows.{firstFailing, segmentCodes, rangesOfSegments, rangesOfMoments, hoursOfAges}
+use Rattle.checks.specs.Rows.{firstFailing, segmentCodes, rangesOfSegments, rangesOfMoments, hoursOfAges}
 use Rattle.member.specs.Member.{checkedOf}
 use Rattle.losses.specs.Run.{memberResult}
 use Rattle.readings.specs.Readings.{Marked, cardText, fieldsOf, hourly, numberAndPlace, resultOfCard, withAges}

@@ -15,7 +15,7 @@ use Rattle.fields.specs.Amounts.{accepted}
 use Rattle.fields.specs.Layout.{columns}
 use Rattle.card.specs.Card.{space, lineFeed, cardOutcome}
 use Rattle.fields.specs.Refusals.{number, place}
-use Rattle.member.specs.Quantities.{Segment, Age, agesOf}
+use Rattle.checks.specs.Quantities.{Segment, Age, agesOf}
 use Rattle.member.specs.Friction.{pathFriction, parabola}
 use Rattle.member.specs.Member.{frictionOf}
 use Rattle.losses.specs.Run.{Result, reported, refused}

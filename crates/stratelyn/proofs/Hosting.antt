@@ -11,7 +11,7 @@ use lib.ListN.{take}
 use Rattle.ticks.specs.Numbers.{bytesPerNumber}
 use Rattle.fields.specs.declared.refusal.Refusal.{Refusal}
 use Rattle.fields.specs.Refusals.{number}
-use Rattle.member.specs.Rows.{perRow}
+use Rattle.checks.specs.Rows.{perRow}
 use Rattle.losses.specs.declared.Reply.{Reply}
 use Rattle.losses.specs.declared.Answer.the-variants.{Accepted, Refused}
 use Rattle.losses.specs.Run.{Result, reported, refused, Answered}

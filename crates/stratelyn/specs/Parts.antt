@@ -9,8 +9,8 @@ use lib.ListN.{take}
 use Rattle.fields.specs.declared.refusal.Reading.{Reading}
 use Rattle.fields.specs.declared.refusal.Reading.the-variants.{Fields, Not}
 use Rattle.fields.specs.Layout.{mostAges, mostFields}
-use Rattle.member.specs.Readable.{Readable}
-use Rattle.member.specs.Rows.{perRow}
+use Rattle.checks.specs.Readable.{Readable}
+use Rattle.checks.specs.Rows.{perRow}
 use Rattle.losses.specs.declared.Answer.{Answer}
 use Rattle.losses.specs.Run.{Result, reported, refused, Answered}
 

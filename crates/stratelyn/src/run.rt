@@ -6,19 +6,19 @@ ghost use lib.Dec.{T};
 ghost use lib.ListN.{length};
 ghost use lib.Ieee.{isNan, binary64, toBits, ofBits};
 ghost use Rattle.fields.specs.Refusals.{number};
-ghost use Rattle.member.specs.Readable.{Readable};
+ghost use Rattle.checks.specs.Readable.{Readable};
 ghost use Rattle.losses.specs.Run.{resultOfReading, refused};
 ghost use Rattle.stratelyn.specs.Numbers.{room};
 ghost use Rattle.stratelyn.specs.Hosts.{replyBytes, acceptance, replyOf, written, Hosted};
 ghost use Rattle.stratelyn.specs.Parts.{mostNumbers, ReadableIf, Rowed};
 use crate::numbers;
+use checks::buffers::PER_ROW;
 use fields::layout::MOST_AGES;
 use fields::layout::MOST_FIELDS;
 use fields::refusal::Reading;
 use fields::refusal::Refusal;
 use losses::Answer;
 use losses::BeforeAges;
-use member::buffers::PER_ROW;
 
 pub const REPLY_BYTES: usize = 64;
 

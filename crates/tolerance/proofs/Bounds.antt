@@ -9,9 +9,9 @@ use Rattle.fraction.specs.Fraction.{whole}
 use Rattle.coefficient.specs.Coefficients.{scf, ssf, mcf, ucr, ush}
 use Rattle.coefficient.proofs.Laws.{scf-range, ssf-range, mcf-range, ucr-range, ush-range}
 use Rattle.ticks.specs.Doubles.{ticksPerUnit}
-use Rattle.member.specs.Quantities.{area, inertia, eccentricity, steelArea, Ec, volumeToSurface, transfer, ultimateStrength}
+use Rattle.checks.specs.Quantities.{area, inertia, eccentricity, steelArea, Ec, volumeToSurface, transfer, ultimateStrength}
 use Rattle.member.specs.Member.{cureOf, concreteOf, kappaOf, creepOf, shrinkageOf}
-use Rattle.member.specs.Rows.{mostKappa, mostCreepOfKappa}
+use Rattle.checks.specs.Rows.{mostKappa, mostCreepOfKappa}
 use Rattle.member.specs.Facts.{HeadFits, Facts}
 use Rattle.steps.specs.Steps.{momentStress as ticksMomentStress}
 use Rattle.tolerance.specs.Coefficients.{kappa, wholeCreep, wholeShrinkage}

@@ -11,7 +11,7 @@ use Rattle.fraction.proofs.Certificate.{num, _⊞_, _⊟_, _⊠_, _⊑_, _⊛_,
 use Rattle.fraction.proofs.Floors.{whole-order, whole-not-negative}
 use Rattle.fraction.proofs.Slopes.{hinge}
 use Rattle.ticks.specs.Doubles.{ticksPerUnit}
-use Rattle.member.specs.Rows.{mostKappa}
+use Rattle.checks.specs.Rows.{mostKappa}
 use Rattle.member.specs.Constants.{kappa}
 use Rattle.steps.specs.Steps.{momentStress as ticksMomentStress, concreteStress as ticksConcreteStress}
 use Rattle.tolerance.specs.Quotients.{_÷_}

@@ -11,8 +11,8 @@ use lib.Dec.{leb}
 use lib.ListN.{length, getD, drop}
 use borrow.Author.Tests.{leb-true}
 use Rattle.member.specs.declared.Member.{Member}
-use Rattle.member.specs.Quantities.{Age}
-use Rattle.member.specs.Rows.{perRow}
+use Rattle.checks.specs.Quantities.{Age}
+use Rattle.checks.specs.Rows.{perRow}
 use Rattle.losses.specs.declared.Stress.{Stress}
 use Rattle.losses.specs.declared.Stress.the-variants.{Left, Gone}
 use Rattle.losses.specs.declared.Begun.{Begun}

@@ -9,7 +9,7 @@ use Rattle.coefficient.specs.declared.tables.Row.{Row}
 use Rattle.coefficient.specs.Lines.{hundred, at, hundredths, weighed}
 use Rattle.coefficient.specs.Tables.{T}
 use Rattle.coefficient.specs.Coefficients.{scf, ssf, mcf, ucr, ush}
-use Rattle.member.specs.Quantities.{Segment, area, inertia, eccentricity, steelArea, Ec, volumeToSurface, transfer}
+use Rattle.checks.specs.Quantities.{Segment, area, inertia, eccentricity, steelArea, Ec, volumeToSurface, transfer}
 use Rattle.member.specs.Friction.{parabola, bend, million}
 use Rattle.member.specs.Member.{cureOf, concreteOf}
 use Rattle.tolerance.specs.Quotients.{_÷_}

@@ -5,8 +5,8 @@ use mathlib.Core.List.{List, [], _∷_}
 use lib.ListN.{length, getD, drop}
 use Rattle.fraction.specs.Fraction.{Fraction, whole, Within}
 use Rattle.ticks.specs.Doubles.{ticksPerUnit}
-use Rattle.member.specs.Quantities.{segmentsOf}
-use Rattle.member.specs.Rows.{perRow}
+use Rattle.checks.specs.Quantities.{segmentsOf}
+use Rattle.checks.specs.Rows.{perRow}
 use Rattle.losses.specs.declared.BeforeAges.{BeforeAges}
 use Rattle.tolerance.specs.Logarithms.{Admissible, tableLogarithm}
 use Rattle.tolerance.specs.Stresses.{jacked, afterDeflector, exactStresses, coreAfterDeflector, coreStresses}

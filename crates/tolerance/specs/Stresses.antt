@@ -11,8 +11,8 @@ use Rattle.coefficient.specs.declared.codes.Kind.the-variants.{Pretensioned, Po
 use Rattle.coefficient.specs.declared.clocks.MemberHours.{MemberHours}
 use Rattle.coefficient.specs.Clocks.{sinceTransfer, sinceCuring, sinceTensioning}
 use Rattle.coefficient.specs.Tables.{creepShareRows, shrinkageShareRows}
-use Rattle.member.specs.Quantities.{Segment, Age, segmentsOf, agesOf, jackingStress, deflectorLoss, slip, tendonLength, ultimateStrength, Es, Eci, eccentricity, inertia, ownWeightMoment, endOfCuring, transfer, wobble, curvature}
-use Rattle.member.specs.Rows.{perRow}
+use Rattle.checks.specs.Quantities.{Segment, Age, segmentsOf, agesOf, jackingStress, deflectorLoss, slip, tendonLength, ultimateStrength, Es, Eci, eccentricity, inertia, ownWeightMoment, endOfCuring, transfer, wobble, curvature}
+use Rattle.checks.specs.Rows.{perRow}
 use Rattle.member.specs.Member.{kindOf, steelOf}
 use Rattle.member.specs.Friction.{pathFriction as ticksFriction}
 use Rattle.steps.specs.Steps.{frictionLoss as ticksFrictionLoss}

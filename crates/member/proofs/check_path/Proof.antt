@@ -3,7 +3,7 @@
 use mathlib.Core.Path.{_≡_, _∙_}
 use borrow.Author.Tests.{eq-eqb, ne-eqb}
 use borrow.Author.Needs.{needs}
-use Rattle.member.specs.Rows.{firstFailing, duct, isPretensioned}
+use Rattle.checks.specs.Rows.{firstFailing, duct, isPretensioned}
 use Rattle.member.specs.Member.{frictionOf}
 use Rattle.member.specs.Stages.{fromDuct}
 use Rattle.member.proofs.check_path.Statement.{statement}

@@ -6,11 +6,11 @@ use Prim.Native.Nat.{ℕ, _+_, _-_, _*_, _≤_, _<_}
 use native.Mathlib.Nat.{zero-add}
 use native.Mathlib.Omega.{arith}
 use Rattle.fields.specs.Layout.{mostSegments}
-use Rattle.member.specs.Quantities.{Segment, wobble, curvature}
+use Rattle.checks.specs.Quantities.{Segment, wobble, curvature}
 use Rattle.member.specs.Friction.{wobblePart, curvaturePart, pathFriction}
 use Rattle.member.specs.Member.{frictionOf}
 use Rattle.member.specs.Facts.{SegmentFits, SegmentsFit, segment-fits, PathFits, mostPart}
-use Rattle.member.proofs.Items.{leftSegments, segmentAt, all-segments, next-segment, no-segment}
+use Rattle.checks.proofs.Items.{leftSegments, segmentAt, all-segments, next-segment, no-segment}
 use Rattle.member.proofs.friction.path_friction.Statement.{statement}
 use Rattle.member.proofs.friction.path_friction.Tie as tie
 

@@ -12,7 +12,7 @@ use lib.Seq.{length-take-le}
 use Rattle.fields.specs.declared.refusal.Reading.the-variants.{Fields}
 use Rattle.losses.specs.declared.Answer.the-variants.{Accepted}
 use Rattle.losses.specs.Run.{Result, resultOfReading}
-use Rattle.member.specs.Rows.{perRow}
+use Rattle.checks.specs.Rows.{perRow}
 use Rattle.stratelyn.specs.Numbers.{room}
 use Rattle.stratelyn.specs.Parts.{Rowed}
 use Rattle.stratelyn.proofs.Hosting.{hosted-refusal, run-refused, run-finite, run-room, run-accepted}

@@ -1,0 +1,4 @@
+pub mod Rows
+pub mod RowPlaces
+pub mod Items
+pub mod Holding

@@ -1,0 +1,4 @@
+pub mod Quantities
+pub mod Rows
+pub mod Readable
+pub mod Parts

@@ -1,0 +1,43 @@
+// Row "codes". A place is the number of a field.
+ghost use mathlib.Core.Path.{_≡_};
+ghost use Prim.Native.Nat.{_≤_};
+ghost use Rattle.fields.specs.Layout.{firstSegmentField, mostSegments};
+ghost use Rattle.checks.specs.Quantities.{segmentsOf};
+ghost use Rattle.checks.specs.Rows.{firstFailing, headCodes, segmentCodes, codes};
+use crate::places;
+use crate::row;
+use fields::layout::HEAD_FIELDS;
+use fields::layout::MOST_FIELDS;
+use fields::layout::PER_SEGMENT;
+
+fn head_codes(fields: &[u64; MOST_FIELDS]) -> u64
+    ensures { λ r. ⌜ r ≡ firstFailing (headCodes (now (fields .entry))) ⌝ }
+{
+    let failing = row::first(0, 1, row::in_range(1, 2, fields[places::KIND]));
+    let failing = row::first(failing, 2, row::in_range(1, 2, fields[places::STEEL]));
+    let failing = row::first(failing, 8, row::in_range(1, 2, fields[places::CURE]));
+    row::first(failing, 9, row::in_range(1, 2, fields[places::CONCRETE]))
+}
+
+fn segment_codes(fields: &[u64; MOST_FIELDS], segments: usize) -> u64
+    requires { ⌜ segments ≤ mostSegments ⌝ }
+    ensures { λ r. ⌜ r ≡ firstFailing (segmentCodes firstSegmentField (segmentsOf segments (now (fields .entry)))) ⌝ }
+{
+    let mut segment = 0usize;
+    while segment < segments {
+        let at = HEAD_FIELDS + PER_SEGMENT * segment;
+        let failing = row::first(0, (at + 1) as u64, row::in_range(1, 3, fields[at]));
+        if failing != 0 {
+            return failing;
+        }
+        segment += 1;
+    }
+    0
+}
+
+pub fn first_failing(fields: &[u64; MOST_FIELDS], segments: usize) -> u64
+    requires { ⌜ segments ≤ mostSegments ⌝ }
+    ensures { λ r. ⌜ r ≡ firstFailing (codes segments (now (fields .entry))) ⌝ }
+{
+    row::or_else(head_codes(fields), segment_codes(fields, segments))
+}

@@ -1,0 +1,152 @@
+// Row "ranges", line by line of the card. A place is the number of a field.
+ghost use mathlib.Core.Path.{_≡_};
+ghost use Prim.Native.Nat.{_≤_};
+ghost use Rattle.fields.specs.Layout.{firstSegmentField, firstAgeField, mostSegments};
+ghost use Rattle.checks.specs.Quantities.{segmentsOf, agesOf, ownWeightMoment};
+ghost use Rattle.checks.specs.Rows.{firstFailing, lengthFits, riseFits, rangesOfLine1, rangesOfLine2};
+ghost use Rattle.checks.specs.Rows.{rangesOfLine3, rangesOfLine4, rangesOfSegments, rangesOfMoments, ranges};
+ghost use Rattle.checks.specs.Readable.{Small, Readable};
+ghost use Rattle.checks.specs.Parts.{segment};
+use crate::places;
+use crate::row;
+use fields::layout::HEAD_FIELDS;
+use fields::layout::MOST_FIELDS;
+use fields::layout::PER_AGE;
+use fields::layout::PER_SEGMENT;
+
+// 2^24
+const MOST_AREA: u64 = 16_777_216;
+
+// 2^34
+const MOST_INERTIA: u64 = 17_179_869_184;
+
+// 2^40
+const MOST_MOMENT: u64 = 1_099_511_627_776;
+
+fn line_1(fields: &[u64; MOST_FIELDS]) -> u64
+    requires { ⌜ Small (now fields) ⌝ }
+    ensures { λ r. ⌜ r ≡ firstFailing (rangesOfLine1 (now (fields .entry))) ⌝ }
+{
+    let ultimate_strength = fields[places::ULTIMATE_STRENGTH];
+    let failing = row::first(0, 3, row::in_range(100_000, 300_000, ultimate_strength));
+    let jacking_stress = fields[places::JACKING_STRESS];
+    let most = 80 * ultimate_strength;
+    let jacking = row::both(1_000 <= jacking_stress, 100 * jacking_stress <= most);
+    let failing = row::first(failing, 4, jacking);
+    let deflector_loss = fields[places::DEFLECTOR_LOSS];
+    let pretensioned = fields[places::KIND] == places::PRETENSIONED;
+    let deflector = row::either(pretensioned, deflector_loss == 0);
+    let failing = row::first(failing, 5, row::both(deflector_loss <= 20_000, deflector));
+    let failing = row::first(failing, 6, fields[places::SLIP] <= 2_048);
+    let length = fields[places::TENDON_LENGTH];
+    row::first(failing, 7, row::in_range(1_024, 2_097_152, length))
+}
+
+fn line_2(fields: &[u64; MOST_FIELDS]) -> u64
+    ensures { λ r. ⌜ r ≡ firstFailing (rangesOfLine2 (now (fields .entry))) ⌝ }
+{
+    let es = fields[places::ES];
+    let failing = row::first(0, 10, row::in_range(20_000_000, 32_000_000, es));
+    let eci = fields[places::ECI];
+    let failing = row::first(failing, 11, row::in_range(1_000_000, 8_000_000, eci));
+    let ec = fields[places::EC];
+    let failing = row::first(failing, 12, row::in_range(1_000_000, 8_000_000, ec));
+    let volume_to_surface = fields[places::VOLUME_TO_SURFACE];
+    row::first(failing, 13, row::in_range(1_024, 65_536, volume_to_surface))
+}
+
+fn line_3(fields: &[u64; MOST_FIELDS]) -> u64
+    ensures { λ r. ⌜ r ≡ firstFailing (rangesOfLine3 (now (fields .entry))) ⌝ }
+{
+    let area = fields[places::AREA];
+    let failing = row::first(0, 14, row::in_range(1_024, MOST_AREA, area));
+    let inertia = fields[places::INERTIA];
+    let failing = row::first(failing, 15, row::in_range(1_024, MOST_INERTIA, inertia));
+    let failing = row::first(failing, 16, fields[places::ECCENTRICITY] <= 65_536);
+    let steel_area = fields[places::STEEL_AREA];
+    let failing = row::first(failing, 17, row::in_range(1, 65_536, steel_area));
+    let own_weight = fields[places::OWN_WEIGHT_MOMENT];
+    row::first(failing, 18, own_weight <= MOST_MOMENT)
+}
+
+fn line_4(fields: &[u64; MOST_FIELDS]) -> u64
+    ensures { λ r. ⌜ r ≡ firstFailing (rangesOfLine4 (now (fields .entry))) ⌝ }
+{
+    let failing = row::first(0, 21, fields[places::WOBBLE] <= 2_000);
+    row::first(failing, 22, fields[places::CURVATURE] <= 400_000)
+}
+
+fn length_fits(kind: u64, length: u64, rise: u64) -> bool
+    ensures { λ r. ⌜ r ≡ lengthFits (segment kind length rise) ⌝ }
+{
+    if kind == places::STRAIGHT {
+        return row::in_range(1, 2_097_152, length);
+    }
+    if kind == places::PARABOLA {
+        return row::in_range(1_024, 2_097_152, length);
+    }
+    length == 0
+}
+
+fn rise_fits(kind: u64, length: u64, rise: u64) -> bool
+    ensures { λ r. ⌜ r ≡ riseFits (segment kind length rise) ⌝ }
+{
+    if kind == places::STRAIGHT {
+        return rise == 0;
+    }
+    if kind == places::PARABOLA {
+        return rise <= 65_536;
+    }
+    rise <= 4_096
+}
+
+fn segment_ranges(fields: &[u64; MOST_FIELDS], segments: usize) -> u64
+    requires { ⌜ segments ≤ mostSegments ⌝ }
+    ensures { λ r. ⌜ r ≡ firstFailing (rangesOfSegments firstSegmentField (segmentsOf segments (now (fields .entry)))) ⌝ }
+{
+    let mut segment = 0usize;
+    while segment < segments {
+        let at = HEAD_FIELDS + PER_SEGMENT * segment;
+        let kind = fields[at];
+        let length = fields[at + 1];
+        let rise = fields[at + 2];
+        let failing = row::first(0, (at + 2) as u64, length_fits(kind, length, rise));
+        let failing = row::first(failing, (at + 3) as u64, rise_fits(kind, length, rise));
+        if failing != 0 {
+            return failing;
+        }
+        segment += 1;
+    }
+    0
+}
+
+fn moment_ranges(fields: &[u64; MOST_FIELDS], segments: usize, ages: usize) -> u64
+    requires { ⌜ Readable segments ages (now fields) ⌝ }
+    ensures { λ r. ⌜ r ≡ firstFailing (rangesOfMoments (firstAgeField segments) (ownWeightMoment (now (fields .entry)))
+        (agesOf segments ages (now (fields .entry)))) ⌝ }
+{
+    let first_age = HEAD_FIELDS + PER_SEGMENT * segments;
+    let mut moments = fields[places::OWN_WEIGHT_MOMENT];
+    let mut age = 0usize;
+    while age < ages {
+        let at = first_age + PER_AGE * age;
+        moments += fields[at + 1];
+        let failing = row::first(0, (at + 2) as u64, moments <= MOST_MOMENT);
+        if failing != 0 {
+            return failing;
+        }
+        age += 1;
+    }
+    0
+}
+
+pub fn first_failing(fields: &[u64; MOST_FIELDS], segments: usize, ages: usize) -> u64
+    requires { ⌜ Readable segments ages (now fields) ⌝ }
+    ensures { λ r. ⌜ r ≡ firstFailing (ranges segments ages (now (fields .entry))) ⌝ }
+{
+    let failing = row::or_else(line_1(fields), line_2(fields));
+    let failing = row::or_else(failing, line_3(fields));
+    let failing = row::or_else(failing, line_4(fields));
+    let failing = row::or_else(failing, segment_ranges(fields, segments));
+    row::or_else(failing, moment_ranges(fields, segments, ages))
+}
