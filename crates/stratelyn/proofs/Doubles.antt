@@ -1,36 +1,15 @@
--- The bits of doubles: infinity's are no NaN's. Assumes nothing.
+-- The bits of a double are those of its value, and one that has a value is no NaN. Assumes nothing.
 use mathlib.Core.Path.{_≡_, sym, ap, _∙_}
 use mathlib.Core.Bool.{false, not}
-use Prim.Native.Nat.{ℕ, _*_, _%_, _^_, _≤_, _<_}
+use Prim.Native.Nat.{ℕ, _*_, _^_}
 use native.Mathlib.Nat.{mul-one, mul-right-comm}
 use lib.Dec.{T, lit<}
-use lib.Ieee.{Float, nan, inf, fin, binary64, up, down, isNan, nanBits, ofBits, toBits}
+use lib.Ieee.{Float, nan, inf, fin, binary64, up, down, isNan, toBits}
 use lib.Ieee.Exact.{HasValue}
 use lib.Ieee.Fits.{down-pos}
 use lib.Ieee.Nearest.{div-same}
 use Rattle.ticks.specs.Doubles.{ticksPerUnit}
 use Rattle.stratelyn.specs.Hosts.{doubleOf}
-use lib.Ieee.Bits.{nanBits-above}
-use borrow.Author.Tests.{lt-ltb, le-ltb}
-use Rattle.stratelyn.specs.Parts.{standsFor}
-
--- 2047 times 2 ^ 52: the bits of infinity
-abbrev infinity : ℕ
-infinity = 0x7FF0_0000_0000_0000
-
-pub above : (bits : ℕ) → infinity < bits % 2 ^ 63 → inf false ≡ standsFor bits
-above bits h = rw (nanBits-above binary64 bits ∙ lt-ltb infinity (bits % 2 ^ 63) h)
-
-below-test : (bits : ℕ) → bits % 2 ^ 63 ≤ infinity → nanBits binary64 bits ≡ false
-below-test bits h = nanBits-above binary64 bits ∙ le-ltb infinity (bits % 2 ^ 63) h
-
-pub below : (bits : ℕ) → bits % 2 ^ 63 ≤ infinity → ofBits binary64 bits ≡ standsFor bits
-below bits h = rw (below-test bits h)
-
-pub no-nan : (bits : ℕ) → bits % 2 ^ 63 ≤ infinity → T (not (nanBits binary64 bits))
-no-nan bits h = rw (below-test bits h) tt
-
--- ---- the bits of a double are those of its value
 
 scaled : (m u d ticks k : ℕ) → m * u * 1024 ≡ ticks * d → m * u * k * 1024 ≡ ticks * 1 * k * d
 scaled m u d ticks k e =

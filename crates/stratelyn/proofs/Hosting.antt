@@ -15,9 +15,9 @@ use Rattle.checks.specs.Rows.{perRow}
 use Rattle.losses.specs.declared.Reply.{Reply}
 use Rattle.losses.specs.declared.Answer.the-variants.{Accepted, Refused}
 use Rattle.losses.specs.Run.{Result, reported, refused, Answered}
-use Rattle.stratelyn.specs.Numbers.{room, bytesOfNumbers}
+use Rattle.numbers.specs.Numbers.{room, bytesOfNumbers, written}
 use Rattle.stratelyn.specs.Parts.{Front, Rowed}
-use Rattle.stratelyn.specs.Hosts.{acceptance, replyOf, written, Hosted}
+use Rattle.stratelyn.specs.Hosts.{acceptance, replyOf, Hosted}
 use Rattle.stratelyn.proofs.Doubles.{same-bits, finite}
 
 pub hosted-refusal : (refusal : Refusal) {returned : ℕ} (report : List ℕ) {reply replyWas : List ℕ}

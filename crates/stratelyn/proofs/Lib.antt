@@ -1,7 +1,4 @@
-mod Lists
-mod Bytes
 mod Doubles
 mod Rows
 mod Hosting
 mod Serving
-mod ListBytes

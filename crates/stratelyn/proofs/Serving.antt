@@ -17,7 +17,7 @@ use Rattle.losses.specs.Run.{Result, reported, refused, resultOfReading, report
 use Rattle.entries.specs.Promise.{resultOf, CloseResult}
 use Rattle.entries.proofs.Closeness.{promise}
 use Rattle.entries.proofs.Readers.{readable, gives}
-use Rattle.stratelyn.specs.Numbers.{room}
+use Rattle.numbers.specs.Numbers.{room}
 use Rattle.stratelyn.specs.Parts.{ReadableIf}
 use Rattle.stratelyn.specs.Hosts.{doubleOf, replyBytes, Hosted, Served}
 

@@ -10,11 +10,11 @@ use lib.Ieee.Exact.{HasValue}
 use lib.ListN.{length, replicate}
 use Rattle.ticks.specs.Doubles.{ticksPerUnit}
 use Rattle.fields.specs.Refusals.{number, place}
-use Rattle.fields.specs.Amounts.{Outcome, over}
+use Rattle.fields.specs.Amounts.{Outcome}
 use Rattle.losses.specs.declared.BeforeAges.{BeforeAges}
 use Rattle.losses.specs.Run.{Result, reported, refused}
 use Rattle.entries.specs.Promise.{resultOf, CloseResult}
-use Rattle.stratelyn.specs.Numbers.{room, bytesOfNumbers}
+use Rattle.numbers.specs.Numbers.{room, written}
 
 -- "The refusal number (0 if accepted) is returned."
 abbrev pub returnedOf : Result → ℕ
@@ -40,10 +40,6 @@ replyOf (refused refusal) = place refusal ∷ replicate 7 0
 abbrev pub rowsOf : Result → List ℕ
 rowsOf (reported before rows last) = rows
 rowsOf (refused refusal) = []
-
--- a host's buffer after some numbers were written at its front
-abbrev pub written : List ℕ → List ℕ → List ℕ
-written numbers old = over (bytesOfNumbers numbers) old
 
 -- the reply's last number, taken for a double's bits, has the last stress's value
 abbrev pub ReadsBack : Result → Type 0

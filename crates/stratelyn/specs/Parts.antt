@@ -1,26 +1,16 @@
 -- What a host's numbers pass through on their way. Document 01 does not speak of it, and what an entry gives does not depend on it.
 -- Assumes nothing.
-use Prim.Native.Nat.{ℕ, _+_, _*_, _≤_}
+use Prim.Native.Nat.{ℕ, _*_, _≤_}
 use mathlib.Core.Path.{_≡_}
-use mathlib.Core.Bool.{false, cond}
 use mathlib.Core.List.{List}
-use lib.Ieee.{Float, inf, binary64, nanBits, ofBits}
 use lib.ListN.{take}
 use Rattle.fields.specs.declared.refusal.Reading.{Reading}
 use Rattle.fields.specs.declared.refusal.Reading.the-variants.{Fields, Not}
-use Rattle.fields.specs.Layout.{mostAges, mostFields}
+use Rattle.fields.specs.Layout.{mostAges}
 use Rattle.checks.specs.Readable.{Readable}
 use Rattle.checks.specs.Rows.{perRow}
 use Rattle.losses.specs.declared.Answer.{Answer}
 use Rattle.losses.specs.Run.{Result, reported, refused, Answered}
-
--- the double with these bits, and infinity for a NaN
-abbrev pub standsFor : ℕ → Float
-standsFor bits = cond (nanBits binary64 bits) (inf false) (ofBits binary64 bits)
-
--- one more than the most fields
-abbrev pub mostDoubles : ℕ
-mostDoubles = mostFields + 1
 
 -- the most numbers that a run can ask a buffer for
 abbrev pub mostNumbers : ℕ

@@ -1,9 +1,8 @@
 // The two entries for C hosts, on numbers and byte slices. Their one promise is the record `Served`.
 ghost use Rattle.card.specs.Card.{cardOutcome};
-ghost use Rattle.stratelyn.specs.Numbers.{bytesOutcome};
+ghost use Rattle.numbers.specs.Numbers.{bytesOutcome};
 ghost use Rattle.stratelyn.specs.Hosts.{Served};
 
-mod numbers;
 mod run;
 
 use fields::layout::MOST_FIELDS;

@@ -13,7 +13,7 @@ use Rattle.fields.specs.declared.refusal.Reading.the-variants.{Fields}
 use Rattle.losses.specs.declared.Answer.the-variants.{Accepted}
 use Rattle.losses.specs.Run.{Result, resultOfReading}
 use Rattle.checks.specs.Rows.{perRow}
-use Rattle.stratelyn.specs.Numbers.{room}
+use Rattle.numbers.specs.Numbers.{room}
 use Rattle.stratelyn.specs.Parts.{Rowed}
 use Rattle.stratelyn.proofs.Hosting.{hosted-refusal, run-refused, run-finite, run-room, run-accepted}
 use Rattle.stratelyn.proofs.run.serve_fields.Statement.{statement}

@@ -2,9 +2,9 @@
 -- Assumes nothing.
 use lib.Dec.{lit≤}
 use lib.Ieee.{ofBits}
-use Rattle.stratelyn.proofs.Doubles.{above, below, no-nan}
-use Rattle.stratelyn.proofs.numbers.double_of.Statement.{statement}
-use Rattle.stratelyn.proofs.numbers.double_of.Tie as tie
+use Rattle.numbers.proofs.Doubles.{above, below, no-nan}
+use Rattle.numbers.proofs.double_of.Statement.{statement}
+use Rattle.numbers.proofs.double_of.Tie as tie
 
 float-from-bits-result : tie.Need-float-from-bits-result
 float-from-bits-result c = no-nan 0x7FF0_0000_0000_0000 (lit≤ tt)

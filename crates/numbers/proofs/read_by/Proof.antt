@@ -3,9 +3,9 @@ use mathlib.Core.Path.{sym, ap, _∙_}
 use denote.Ref.{now}
 use borrow.Author.Needs.{needs}
 use Rattle.fields.specs.Amounts.{Outcome, over}
-use Rattle.stratelyn.proofs.ListBytes.{front-length, bytes-enough, read-length, read-outcome}
-use Rattle.stratelyn.proofs.numbers.read_by.Statement.{statement}
-use Rattle.stratelyn.proofs.numbers.read_by.Tie as tie
+use Rattle.numbers.proofs.ListBytes.{front-length, bytes-enough, read-length, read-outcome}
+use Rattle.numbers.proofs.read_by.Statement.{statement}
+use Rattle.numbers.proofs.read_by.Tie as tie
 
 room-up-to-requires : tie.Need-room-up-to-requires
 room-up-to-requires c κs = search needs

@@ -27,8 +27,8 @@ use Rattle.fields.specs.Amounts.{refused as notRead}
 use Rattle.fields.proofs.Accepted.{Accepted}
 use Rattle.list.proofs.Laws.{accepted-list}
 use Rattle.list.specs.Lists.{amountIn, inTicks, amountsOf, withCount, countIn, countsIn, withCounts, listOutcome}
-use Rattle.stratelyn.specs.Numbers.{room, numbersFrom, doublesOf, bytesOutcome}
-use Rattle.stratelyn.specs.Parts.{standsFor, mostDoubles}
+use Rattle.numbers.specs.Numbers.{room, numbersFrom, doublesOf, bytesOutcome}
+use Rattle.numbers.specs.Parts.{standsFor, mostDoubles}
 
 -- ---- infinity for a NaN
 

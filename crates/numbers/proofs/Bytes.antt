@@ -12,10 +12,9 @@ use borrow.Rule.Slice.PartMut.{midOf, putMid}
 use Rattle.ticks.specs.Numbers.{numberOf, bytesOf, bytesPerNumber}
 use Rattle.ticks.proofs.Laws.{bytes-length}
 use Rattle.fields.specs.Amounts.{over}
-use Rattle.stratelyn.proofs.Lists.{over-length, lent, behind}
-use Rattle.stratelyn.specs.Numbers.{bytesOfNumbers, numbersFrom}
-use Rattle.stratelyn.specs.Parts.{standsFor}
-use Rattle.stratelyn.specs.Hosts.{written}
+use Rattle.numbers.proofs.Lists.{over-length, lent, behind}
+use Rattle.numbers.specs.Numbers.{bytesOfNumbers, written, numbersFrom}
+use Rattle.numbers.specs.Parts.{standsFor}
 
 -- ---- writing
 

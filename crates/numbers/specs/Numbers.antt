@@ -8,7 +8,7 @@ use lib.Ieee.{Float, binary64, ofBits}
 use lib.ListN.{length, take, drop}
 use Rattle.ticks.specs.Numbers.{numberOf, bytesOf, bytesPerNumber}
 use Rattle.fields.specs.declared.refusal.Refusal.the-variants.{Shape}
-use Rattle.fields.specs.Amounts.{Outcome, refused}
+use Rattle.fields.specs.Amounts.{Outcome, over, refused}
 use Rattle.list.specs.Lists.{listOutcome}
 
 -- how many numbers some bytes hold: "odd bytes at a buffer's end" hold none
@@ -19,6 +19,10 @@ room bytes = bytes / bytesPerNumber
 unfoldable pub bytesOfNumbers : List ℕ → List ℕ
 bytesOfNumbers [] = []
 bytesOfNumbers (number ∷ numbers) = bytesOf bytesPerNumber number ++ bytesOfNumbers numbers
+
+-- a host's buffer after some numbers were written at its front
+abbrev pub written : List ℕ → List ℕ → List ℕ
+written numbers old = over (bytesOfNumbers numbers) old
 
 -- so many numbers, from the first byte on
 unfoldable pub numbersFrom : ℕ → List ℕ → List ℕ

@@ -1,9 +1,9 @@
 -- Bytes that are no whole numbers are refused, and any others read as doubles. Assumes nothing.
 use mathlib.Core.Path.{refl}
 use borrow.Author.Needs.{needs}
-use Rattle.stratelyn.proofs.ListBytes.{ragged, whole}
-use Rattle.stratelyn.proofs.numbers.read_list.Statement.{statement}
-use Rattle.stratelyn.proofs.numbers.read_list.Tie as tie
+use Rattle.numbers.proofs.ListBytes.{ragged, whole}
+use Rattle.numbers.proofs.read_list.Statement.{statement}
+use Rattle.numbers.proofs.read_list.Tie as tie
 
 returns : tie.Need-returns
 returns c = rw (ragged _ (c .if1 .taken)) (refl, refl)

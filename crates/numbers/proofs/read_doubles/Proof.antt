@@ -3,9 +3,9 @@ use Prim.Native.Nat.{_-_}
 use lib.ListN.{length}
 use borrow.Author.Needs.{needs}
 use native.Mathlib.Omega.{arith}
-use Rattle.stratelyn.proofs.Bytes.{Decoded, decoded-none, decoded-more, decoded-all}
-use Rattle.stratelyn.proofs.numbers.read_doubles.Statement.{statement}
-use Rattle.stratelyn.proofs.numbers.read_doubles.Tie as tie
+use Rattle.numbers.proofs.Bytes.{Decoded, decoded-none, decoded-more, decoded-all}
+use Rattle.numbers.proofs.read_doubles.Statement.{statement}
+use Rattle.numbers.proofs.read_doubles.Tie as tie
 
 abbrev Inv-loop : tie.InvT-loop
 Inv-loop list doubles₀ read₀ doubles read = Decoded list doubles₀ doubles read

@@ -4,9 +4,9 @@ use Prim.Native.Nat.{_-_}
 use lib.ListN.{length}
 use borrow.Author.Needs.{needs}
 use native.Mathlib.Omega.{arith}
-use Rattle.stratelyn.proofs.Bytes.{Stored, stored-none, stored-more, stored-all}
-use Rattle.stratelyn.proofs.numbers.write_numbers.Statement.{statement}
-use Rattle.stratelyn.proofs.numbers.write_numbers.Tie as tie
+use Rattle.numbers.proofs.Bytes.{Stored, stored-none, stored-more, stored-all}
+use Rattle.numbers.proofs.write_numbers.Statement.{statement}
+use Rattle.numbers.proofs.write_numbers.Tie as tie
 
 abbrev Inv-loop : tie.InvT-loop
 Inv-loop numbers buffer₀ done₀ buffer done = Stored numbers buffer₀ buffer done

@@ -1,0 +1,4 @@
+pub mod ListBytes
+mod Lists
+mod Bytes
+mod Doubles

@@ -1,0 +1,14 @@
+-- What the doubles of a list pass through on their way. Document 01 does not speak of it, and what a list gives does not depend on it.
+-- Assumes nothing.
+use Prim.Native.Nat.{ℕ, _+_}
+use mathlib.Core.Bool.{false, cond}
+use lib.Ieee.{Float, inf, binary64, nanBits, ofBits}
+use Rattle.fields.specs.Layout.{mostFields}
+
+-- the double with these bits, and infinity for a NaN
+abbrev pub standsFor : ℕ → Float
+standsFor bits = cond (nanBits binary64 bits) (inf false) (ofBits binary64 bits)
+
+-- one more than the most fields
+abbrev pub mostDoubles : ℕ
+mostDoubles = mostFields + 1
