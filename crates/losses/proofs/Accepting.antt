@@ -16,7 +16,7 @@ use Rattle.checks.specs.Rows.{perRow}
 use Rattle.member.specs.Member.{memberOf, checkedOf}
 use Rattle.member.specs.Facts.{RisingFrom, rises, MomentsWithin, adds, Facts}
 use Rattle.member.proofs.Laws.{accepted}
-use Rattle.losses.specs.Bounds.{Bounded, AgesBounded}
+use Rattle.stages.specs.Bounds.{Bounded, AgesBounded}
 
 -- U at the most of its three coefficients
 creep-fits : (cure : Cure) (concrete : Concrete) (ec volumeToSurface transfer : ℕ)

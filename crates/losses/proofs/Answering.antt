@@ -15,16 +15,16 @@ use Rattle.fields.specs.declared.refusal.Refusal.the-variants.{Stress as Stress
 use Rattle.member.specs.declared.Member.{Member}
 use Rattle.checks.specs.Quantities.{Age}
 use Rattle.checks.specs.Rows.{perRow}
-use Rattle.losses.specs.declared.Stress.{Stress}
-use Rattle.losses.specs.declared.Stress.the-variants.{Left, Gone}
-use Rattle.losses.specs.declared.BeforeAges.{BeforeAges}
-use Rattle.losses.specs.declared.Begun.the-variants.{Begins, Fails}
+use Rattle.stages.specs.declared.Stress.{Stress}
+use Rattle.stages.specs.declared.Stress.the-variants.{Left, Gone}
+use Rattle.stages.specs.declared.BeforeAges.{BeforeAges}
+use Rattle.stages.specs.declared.Begun.the-variants.{Begins, Fails}
 use Rattle.losses.specs.declared.ages.LastStress.{LastStress}
 use Rattle.losses.specs.declared.ages.LastStress.the-variants.{Of, GoneAt}
 use Rattle.losses.specs.declared.Answer.the-variants.{Accepted, Refused}
-use Rattle.losses.specs.BeforeAges.{begunOf}
-use Rattle.losses.specs.Ages.{Aged, agedFrom}
-use Rattle.losses.specs.Intervals.{lastOf, last, RanAges}
+use Rattle.stages.specs.BeforeAges.{begunOf}
+use Rattle.stages.specs.Ages.{Aged, agedFrom}
+use Rattle.losses.specs.RunAges.{lastOf, last, RanAges}
 use Rattle.losses.specs.Run.{Result, refused, startOf, memberResult, Ran}
 
 -- what the last stress says of the ages

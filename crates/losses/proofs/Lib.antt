@@ -1,8 +1,4 @@
 pub mod Accepting
 pub mod Answering
-pub mod Beginning
-pub mod Leaving
-mod Clocks
 mod Lists
-mod Passing
 mod Running

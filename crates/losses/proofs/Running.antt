@@ -14,19 +14,20 @@ use Rattle.fields.specs.Amounts.{over}
 use Rattle.member.specs.declared.Member.{Member}
 use Rattle.checks.specs.Quantities.{Age, agesFrom, agesOf}
 use Rattle.checks.specs.Rows.{perRow}
-use Rattle.losses.specs.declared.Stress.{Stress}
-use Rattle.losses.specs.declared.Stress.the-variants.{Left, Gone}
-use Rattle.losses.specs.declared.ends.End.{End}
-use Rattle.losses.specs.declared.ages.Losses.{Losses}
-use Rattle.losses.specs.declared.ages.Passed.{Passed}
-use Rattle.losses.specs.declared.ages.Passed.the-variants.{By, Gone as NonePassed}
+use Rattle.stages.specs.declared.Stress.{Stress}
+use Rattle.stages.specs.declared.Stress.the-variants.{Left, Gone}
+use Rattle.stages.specs.declared.ends.End.{End}
+use Rattle.stages.specs.declared.intervals.Losses.{Losses}
+use Rattle.stages.specs.declared.intervals.Passed.{Passed}
+use Rattle.stages.specs.declared.intervals.Passed.the-variants.{By, Gone as NonePassed}
 use Rattle.losses.specs.declared.ages.LastStress.the-variants.{Of, GoneAt}
-use Rattle.losses.specs.Stresses.{after}
-use Rattle.losses.specs.Bounds.{Bounded, AgesBounded}
-use Rattle.losses.specs.Ages.{Start, Aged, behind, onward, nextStart, rowOf, lossesIn, agedFrom}
-use Rattle.losses.specs.Intervals.{endAt, transferEnd, lossesBetween, passing, passed, rowBy, RanAges}
+use Rattle.stages.specs.Stresses.{after}
+use Rattle.stages.specs.Bounds.{Bounded, AgesBounded}
+use Rattle.stages.specs.Ages.{Start, Aged, behind, onward, nextStart, rowOf, lossesIn, agedFrom}
+use Rattle.stages.specs.Intervals.{endAt, transferEnd, lossesBetween, passing, passed}
+use Rattle.losses.specs.RunAges.{rowBy, RanAges}
 use Rattle.losses.specs.Run.{startOf}
-use Rattle.losses.proofs.Leaving.{left-fits}
+use Rattle.stages.proofs.Leaving.{left-fits}
 use Rattle.losses.proofs.Lists.{length-over, lent, row-behind}
 
 -- the age that stands at a field

@@ -1,6 +1,2 @@
-pub mod Stresses
-pub mod Bounds
-pub mod BeforeAges
-pub mod Ages
-pub mod Intervals
+pub mod RunAges
 pub mod Run

@@ -18,16 +18,16 @@ use Rattle.member.specs.declared.Checked.{Checked}
 use Rattle.member.specs.declared.Checked.the-variants.{Accepted, Refused}
 use Rattle.checks.specs.Quantities.{Age, agesOf}
 use Rattle.member.specs.Member.{checkedOf}
-use Rattle.losses.specs.declared.Stress.{Stress}
-use Rattle.losses.specs.declared.Stress.the-variants.{Left, Gone}
-use Rattle.losses.specs.declared.Begun.{Begun}
-use Rattle.losses.specs.declared.Begun.the-variants.{Begins, Fails}
-use Rattle.losses.specs.declared.BeforeAges.{BeforeAges}
+use Rattle.stages.specs.declared.Stress.{Stress}
+use Rattle.stages.specs.declared.Stress.the-variants.{Left, Gone}
+use Rattle.stages.specs.declared.Begun.{Begun}
+use Rattle.stages.specs.declared.Begun.the-variants.{Begins, Fails}
+use Rattle.stages.specs.declared.BeforeAges.{BeforeAges}
 use Rattle.losses.specs.declared.Reply.{Reply}
 use Rattle.losses.specs.declared.Answer.{Answer}
 use Rattle.losses.specs.declared.Answer.the-variants.{Accepted as AcceptedRun, Refused as RefusedRun}
-use Rattle.losses.specs.BeforeAges.{begunOf}
-use Rattle.losses.specs.Ages.{Start, Aged, agedFrom}
+use Rattle.stages.specs.BeforeAges.{begunOf}
+use Rattle.stages.specs.Ages.{Start, Aged, agedFrom}
 
 -- what a run gives: the losses before the ages, the rows of the report and the last stress; or a refusal
 pub data Result : Type 0 where

@@ -5,14 +5,11 @@ ghost use lib.ListN.{length};
 ghost use Rattle.logarithm.specs.Logarithm.{IsTable};
 ghost use Rattle.fields.specs.Amounts.{over};
 ghost use Rattle.checks.specs.Quantities.{agesOf};
-ghost use Rattle.losses.specs.Bounds.{Bounded, AgesBounded};
-ghost use Rattle.losses.specs.Ages.{agedFrom};
-ghost use Rattle.losses.specs.Intervals.{transferEnd, lossesBetween, passed, rowBy, EndBounded, RanAges};
+ghost use Rattle.stages.specs.Bounds.{Bounded, AgesBounded};
+ghost use Rattle.stages.specs.Ages.{agedFrom};
+ghost use Rattle.stages.specs.Intervals.{transferEnd, lossesBetween, passed, EndBounded};
+ghost use Rattle.losses.specs.RunAges.{rowBy, RanAges};
 ghost use Rattle.losses.specs.Run.{startOf};
-use crate::Stress;
-use crate::before;
-use crate::ends;
-use crate::ends::End;
 use checks::buffers::PER_ROW;
 use fields::layout::HEAD_FIELDS;
 use fields::layout::MOST_FIELDS;
@@ -20,56 +17,16 @@ use fields::layout::PER_AGE;
 use fields::layout::PER_SEGMENT;
 use logarithm::ENTRIES;
 use member::Member;
-
-pub struct Losses {
-    pub creep: u64,
-    pub shrinkage: u64,
-    pub relaxation: u64,
-}
-
-// The losses of an interval and the stress that they leave; or none is left.
-pub enum Passed {
-    By(Losses, u64),
-    Gone,
-}
+use stages::ends;
+use stages::ends::End;
+use stages::intervals;
+use stages::intervals::Losses;
+use stages::intervals::Passed;
 
 // The stress after the last age, or the number of the age at which it is gone.
 pub enum LastStress {
     Of(u64),
     GoneAt(u64),
-}
-
-// The losses of an interval, from the stress at its start and from its two ends.
-fn losses_between(m: Member, stress: u64, start: End, end: End) -> Losses
-    requires { ⌜ (Bounded m) × (stress < 2 ^ 28) × (EndBounded end) ⌝ }
-    ensures { λ r. ⌜ r ≡ lossesBetween m stress start end ⌝ }
-{
-    let steel = m.steel;
-    let c = steps::concrete_stress(stress, m.kappa, start.g);
-    let creep_share = steps::difference(end.creep, start.creep);
-    let shrinkage_share = steps::difference(end.shrinkage, start.shrinkage);
-    let logarithms = steps::difference(end.logarithm, start.logarithm);
-    let creep = steps::creep_loss(m.creep, creep_share, c);
-    let shrinkage = steps::shrinkage_loss(m.shrinkage, shrinkage_share);
-    let relaxation = steps::relaxation_loss(steel, m.ultimate_strength, stress, logarithms);
-    Losses {
-        creep,
-        shrinkage,
-        relaxation,
-    }
-}
-
-// All three losses leave the stress together.
-fn pass(m: Member, stress: u64, start: End, end: End) -> Passed
-    requires { ⌜ (Bounded m) × (stress < 2 ^ 28) × (EndBounded end) ⌝ }
-    ensures { λ r. ⌜ r ≡ passed m stress start end ⌝ }
-{
-    let losses = losses_between(m, stress, start, end);
-    let together = losses.creep + losses.shrinkage + losses.relaxation;
-    let Stress::Left(left) = before::after(stress, together) else {
-        return Passed::Gone;
-    };
-    Passed::By(losses, left)
 }
 
 // A row at the front of a part of the scratch.
@@ -110,7 +67,7 @@ pub fn run_ages(
         let hour = fields[field] as u32;
         let moments = start.moments + fields[field + 1];
         let end = ends::end_at(m, thresholds, moments, hour);
-        let Passed::By(losses, left) = pass(m, stress, start, end) else {
+        let Passed::By(losses, left) = intervals::pass(m, stress, start, end) else {
             return LastStress::GoneAt(number);
         };
         write_row(&mut scratch[at..], losses, left);

@@ -5,12 +5,10 @@ ghost use Prim.Native.Nat.{_*_, _≤_};
 ghost use lib.ListN.{length, take, drop};
 ghost use Rattle.checks.specs.Quantities.{agesOf};
 ghost use Rattle.checks.specs.Readable.{Readable};
-ghost use Rattle.losses.specs.Bounds.{Bounded, AgesBounded};
+ghost use Rattle.stages.specs.Bounds.{Bounded, AgesBounded};
 ghost use Rattle.losses.specs.Run.{memberResult, resultOfReading, Ran};
 
 pub mod ages;
-pub mod before;
-pub mod ends;
 
 use ages::LastStress;
 use checks::buffers::PER_ROW;
@@ -19,27 +17,10 @@ use fields::refusal::Reading;
 use fields::refusal::Refusal;
 use member::Checked;
 use member::Member;
-
-// What a loss leaves of a stress, in ticks.
-pub enum Stress {
-    Left(u64),
-    Gone,
-}
-
-// The five losses before the ages, and the stress after them, in ticks.
-pub struct BeforeAges {
-    pub friction: u64,
-    pub slip: u64,
-    pub deflector: u64,
-    pub early_relaxation: u64,
-    pub shortening: u64,
-    pub stress: u64,
-}
-
-pub enum Begun {
-    Begins(BeforeAges),
-    Fails,
-}
+use stages::BeforeAges;
+use stages::Begun;
+use stages::before;
+use stages::ends;
 
 // What an accepted run replies: those, and the last stress in psi.
 pub struct Reply {

@@ -16,7 +16,7 @@ use fields::refusal::Reading;
 use fields::refusal::Refusal;
 use libc::STDOUT_FILENO;
 use losses::Answer;
-use losses::BeforeAges;
+use stages::BeforeAges;
 
 const COLUMNS: usize = 14;
 

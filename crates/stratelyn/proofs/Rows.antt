@@ -19,15 +19,15 @@ use Rattle.checks.specs.Quantities.{Age, agesFrom, agesOf}
 use Rattle.checks.specs.Rows.{firstFailing, perRow}
 use Rattle.member.specs.Member.{checkedOf}
 use Rattle.member.proofs.Laws.{accepted}
-use Rattle.losses.specs.declared.Stress.{Stress}
-use Rattle.losses.specs.declared.Stress.the-variants.{Left, Gone}
-use Rattle.losses.specs.declared.Begun.{Begun}
-use Rattle.losses.specs.declared.Begun.the-variants.{Begins, Fails}
-use Rattle.losses.specs.declared.BeforeAges.{BeforeAges}
+use Rattle.stages.specs.declared.Stress.{Stress}
+use Rattle.stages.specs.declared.Stress.the-variants.{Left, Gone}
+use Rattle.stages.specs.declared.Begun.{Begun}
+use Rattle.stages.specs.declared.Begun.the-variants.{Begins, Fails}
+use Rattle.stages.specs.declared.BeforeAges.{BeforeAges}
 use Rattle.losses.specs.declared.Answer.{Answer}
-use Rattle.losses.specs.BeforeAges.{begunOf}
-use Rattle.losses.specs.Stresses.{after}
-use Rattle.losses.specs.Ages.{Start, Aged, agedFrom, onward, behind, rowOf, nextStart, lossesIn}
+use Rattle.stages.specs.BeforeAges.{begunOf}
+use Rattle.stages.specs.Stresses.{after}
+use Rattle.stages.specs.Ages.{Start, Aged, agedFrom, onward, behind, rowOf, nextStart, lossesIn}
 use Rattle.losses.specs.Run.{Result, reported, refused, startOf, resultOfAges, resultOfBegun, memberResult, resultOfChecked}
 use Rattle.losses.specs.Run.{resultOfReading, reportAfter, Ran}
 use Rattle.stratelyn.specs.Parts.{mostNumbers, Front, Rowed}

@@ -11,7 +11,7 @@ use lib.ListN.{length, replicate}
 use Rattle.ticks.specs.Doubles.{ticksPerUnit}
 use Rattle.fields.specs.Refusals.{number, place}
 use Rattle.fields.specs.Amounts.{Outcome}
-use Rattle.losses.specs.declared.BeforeAges.{BeforeAges}
+use Rattle.stages.specs.declared.BeforeAges.{BeforeAges}
 use Rattle.losses.specs.Run.{Result, reported, refused}
 use Rattle.entries.specs.Promise.{resultOf, CloseResult}
 use Rattle.numbers.specs.Numbers.{room, written}

@@ -17,7 +17,7 @@ use fields::layout::MOST_FIELDS;
 use fields::refusal::Reading;
 use fields::refusal::Refusal;
 use losses::Answer;
-use losses::BeforeAges;
+use stages::BeforeAges;
 
 pub const REPLY_BYTES: usize = 64;
 

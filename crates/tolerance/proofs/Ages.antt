@@ -18,7 +18,7 @@ use Rattle.coefficient.proofs.Laws.{since-tensioning-least, since-tensioning-mo
 use Rattle.checks.specs.Quantities.{Age, ultimateStrength}
 use Rattle.member.specs.Member.{memberOf, steelOf, kappaOf, creepOf}
 use Rattle.member.specs.Facts.{RisingFrom, rises}
-use Rattle.losses.specs.Ages.{Start, creepIn, shrinkageIn, relaxationIn, lossesIn}
+use Rattle.stages.specs.Ages.{Start, creepIn, shrinkageIn, relaxationIn, lossesIn}
 use Rattle.tolerance.specs.Quotients.{_÷_}
 use Rattle.tolerance.specs.Coefficients.{kappa, wholeCreep, wholeShrinkage}
 use Rattle.tolerance.specs.Steps.{creepLoss, shrinkageLoss, relaxationLoss}

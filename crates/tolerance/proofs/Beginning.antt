@@ -26,8 +26,8 @@ use Rattle.checks.specs.Quantities.{Es, Eci, ownWeightMoment, transfer, wobble,
 use Rattle.member.specs.Member.{memberOf, kindOf, steelOf, frictionOf, kappaOf}
 use Rattle.member.specs.Facts.{SegmentsFit, no-segment, segment-fits, Facts}
 use Rattle.steps.specs.Steps.{frictionLoss as ticksFrictionLoss, slipLoss as ticksSlipLoss}
-use Rattle.losses.specs.declared.BeforeAges.{BeforeAges}
-use Rattle.losses.specs.BeforeAges.{earlyRelaxation as ticksEarly, shorteningOf}
+use Rattle.stages.specs.declared.BeforeAges.{BeforeAges}
+use Rattle.stages.specs.BeforeAges.{earlyRelaxation as ticksEarly, shorteningOf}
 use Rattle.tolerance.specs.Quotients.{_÷_}
 use Rattle.tolerance.specs.Coefficients.{kappa}
 use Rattle.tolerance.specs.Steps.{shorteningLoss}

@@ -17,8 +17,8 @@ use Rattle.checks.specs.Quantities.{Age, agesFrom, segmentsOf, agesOf, transfer
 use Rattle.member.specs.Friction.{pathFriction as ticksFriction}
 use Rattle.member.specs.Member.{memberOf}
 use Rattle.member.specs.Facts.{Facts}
-use Rattle.losses.specs.declared.BeforeAges.{BeforeAges}
-use Rattle.losses.specs.Ages.{Start}
+use Rattle.stages.specs.declared.BeforeAges.{BeforeAges}
+use Rattle.stages.specs.Ages.{Start}
 use Rattle.losses.specs.Run.{reported, startOf, memberResult}
 use Rattle.tolerance.specs.Stresses.{jacked, afterSegments}
 use Rattle.tolerance.specs.Stresses.{coreAfterSegments, coreAfterSlip, coreAfterEarly, exactStresses, coreStresses}

@@ -13,14 +13,14 @@ use borrow.Author.Tests.{leb-true}
 use Rattle.member.specs.declared.Member.{Member}
 use Rattle.checks.specs.Quantities.{Age}
 use Rattle.checks.specs.Rows.{perRow}
-use Rattle.losses.specs.declared.Stress.{Stress}
-use Rattle.losses.specs.declared.Stress.the-variants.{Left, Gone}
-use Rattle.losses.specs.declared.Begun.{Begun}
-use Rattle.losses.specs.declared.Begun.the-variants.{Begins, Fails}
-use Rattle.losses.specs.declared.BeforeAges.{BeforeAges}
-use Rattle.losses.specs.Stresses.{leastStress, after}
-use Rattle.losses.specs.BeforeAges.{jacked, frictionOf, slipOf, deflectorOf, earlyRelaxationOf, shorteningOf, onward, begunOf}
-use Rattle.losses.specs.Ages.{Start, Aged, lossesIn, rowOf, nextStart, agedFrom, onward as agesOnward, behind}
+use Rattle.stages.specs.declared.Stress.{Stress}
+use Rattle.stages.specs.declared.Stress.the-variants.{Left, Gone}
+use Rattle.stages.specs.declared.Begun.{Begun}
+use Rattle.stages.specs.declared.Begun.the-variants.{Begins, Fails}
+use Rattle.stages.specs.declared.BeforeAges.{BeforeAges}
+use Rattle.stages.specs.Stresses.{leastStress, after}
+use Rattle.stages.specs.BeforeAges.{jacked, frictionOf, slipOf, deflectorOf, earlyRelaxationOf, shorteningOf, onward, begunOf}
+use Rattle.stages.specs.Ages.{Start, Aged, lossesIn, rowOf, nextStart, agedFrom, onward as agesOnward, behind}
 use Rattle.losses.specs.Run.{reported, resultOfAges, resultOfBegun, startOf, memberResult}
 use Rattle.tolerance.specs.Stresses.{reported as stressesOfRows}
 use Rattle.tolerance.specs.Demand.{Falls, lossesBefore, lossesOfRows}

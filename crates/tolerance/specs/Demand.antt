@@ -7,7 +7,7 @@ use Rattle.fraction.specs.Fraction.{Fraction, whole, Within}
 use Rattle.ticks.specs.Doubles.{ticksPerUnit}
 use Rattle.checks.specs.Quantities.{segmentsOf}
 use Rattle.checks.specs.Rows.{perRow}
-use Rattle.losses.specs.declared.BeforeAges.{BeforeAges}
+use Rattle.stages.specs.declared.BeforeAges.{BeforeAges}
 use Rattle.tolerance.specs.Logarithms.{Admissible, tableLogarithm}
 use Rattle.tolerance.specs.Stresses.{jacked, afterDeflector, exactStresses, coreAfterDeflector, coreStresses}
 

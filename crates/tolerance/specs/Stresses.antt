@@ -16,7 +16,7 @@ use Rattle.checks.specs.Rows.{perRow}
 use Rattle.member.specs.Member.{kindOf, steelOf}
 use Rattle.member.specs.Friction.{pathFriction as ticksFriction}
 use Rattle.steps.specs.Steps.{frictionLoss as ticksFrictionLoss}
-use Rattle.losses.specs.declared.BeforeAges.{BeforeAges}
+use Rattle.stages.specs.declared.BeforeAges.{BeforeAges}
 use Rattle.tolerance.specs.Coefficients.{pathFriction, kappa, wholeCreep, wholeShrinkage, shareOf}
 use Rattle.tolerance.specs.Steps.{frictionLoss, slipLoss, relaxationLoss, momentStress, concreteStress, shorteningLoss, creepLoss, shrinkageLoss}
 

@@ -5,7 +5,7 @@ use borrow.Author.Needs.{needs}
 use denote.Ref.{now}
 use lib.ListN.{getD}
 use native.Mathlib.Omega.{arith}
-use Rattle.losses.proofs.Clocks.{end-bounded}
+use Rattle.stages.proofs.Clocks.{end-bounded}
 use Rattle.losses.proofs.Running.{Progress, begins, ends, moments-fit, hour-fits, room-for-row, stops, turns}
 use Rattle.losses.proofs.ages.run_ages.Statement.{statement}
 use Rattle.losses.proofs.ages.run_ages.Tie as tie

@@ -1,0 +1,61 @@
+-- Each share and the logarithms are differences of the interval's ends, no more than what stands at the later, so that every loss has
+-- its bounds. Assumes nothing.
+use borrow.Author.Needs.{needs}
+use native.Mathlib.Omega.{arith}
+use Rattle.stages.proofs.intervals.losses_between.Statement.{statement}
+use Rattle.stages.proofs.intervals.losses_between.Tie as tie
+use Rattle.steps.proofs.Laws.{concrete-most}
+
+concrete-stress-requires : tie.Need-concrete-stress-requires
+concrete-stress-requires c κs = search needs
+
+difference-requires : tie.Need-difference-requires
+difference-requires c κs = search needs
+
+difference-requires-2 : tie.Need-difference-requires-2
+difference-requires-2 c κs = search needs
+
+difference-requires-3 : tie.Need-difference-requires-3
+difference-requires-3 c κs = search needs
+
+creep-loss-requires : tie.Need-creep-loss-requires
+creep-loss-requires c κs =
+    let start = c .before .before .before .before in
+    let bounds = start .pre in (
+      bounds .0 .creep-fits,
+      omega (arith, c .before .before .difference .ensures, bounds .2 .creep-fits),
+      rw (c .before .before .before .concrete-stress .ensures) (concrete-most _ _ _ (bounds .1) (bounds .0 .kappa-fits)),
+    )
+
+shrinkage-loss-requires : tie.Need-shrinkage-loss-requires
+shrinkage-loss-requires c κs = search needs
+
+relaxation-loss-requires : tie.Need-relaxation-loss-requires
+relaxation-loss-requires c κs = search needs
+
+returns : tie.Need-returns
+returns c =
+    let shrunk = c .before in
+    let readings = shrunk .before .before in
+    rw (
+      shrunk .before .creep-loss .ensures,
+      shrunk .shrinkage-loss .ensures,
+      c .relaxation-loss .ensures,
+      readings .difference3 .ensures,
+      readings .before .difference2 .ensures,
+      readings .before .before .difference .ensures,
+      readings .before .before .before .concrete-stress .ensures,
+    )
+
+pub losses-between-spec : {M : Type 1} → statement M
+losses-between-spec =
+    tie.close
+    (tie.spec
+    concrete-stress-requires
+    difference-requires
+    difference-requires-2
+    difference-requires-3
+    creep-loss-requires
+    shrinkage-loss-requires
+    relaxation-loss-requires
+    returns)

@@ -1,0 +1,5 @@
+pub mod Stresses
+pub mod Bounds
+pub mod BeforeAges
+pub mod Ages
+pub mod Intervals
