@@ -18,7 +18,7 @@ use Rattle.fields.specs.declared.refusal.Refusal.{Refusal}
 use Rattle.fields.specs.declared.refusal.Refusal.the-variants.{Shape, Ranges}
 use Rattle.fields.specs.declared.refusal.Reading.the-variants.{Fields, Not}
 use Rattle.fields.specs.Layout.{slipField, blankSlip, segmentsField, agesField, mostSegments, leastAges, mostAges}
-use Rattle.fields.specs.Layout.{agesOutOfRange, perSegment, perAge, headFields, firstSegmentField, fieldsIn}
+use Rattle.fields.specs.Layout.{agesOutOfRange, perSegment, perAge, headFields, firstSegmentField}
 use Rattle.fields.specs.Amounts.{numbersIn, Outcome, refused, accepted}
 use Rattle.fields.specs.Layout.{columns}
 use Rattle.card.specs.Card.{isDigit, digitsOf, spacesIn, fieldOf, amountOf, amountsOf, isShaped, isRight}

@@ -1,6 +1,6 @@
 -- How the fields of document 01, "The card", are set and numbered, and the limits that their counts have. Assumes nothing.
 use Prim.Native.Nat.{ℕ, _+_, _*_}
-use mathlib.Core.Bool.{Bool, true, false, _||_}
+use mathlib.Core.Bool.{Bool, _||_}
 use lib.Dec.{ltb}
 
 -- "14-column fields"

@@ -6,7 +6,7 @@ use Prim.Native.Nat.{ℕ, suc, _^_, _≤_, _<_}
 use native.Mathlib.Nat.{pow-le-pow-left, pow-le-pow-right, lt-of-le-of-lt, lt-of-lt-of-le, le-trans, one-le-pow, lt-of-not-le, not-le-of-lt}
 use native.Mathlib.Omega.{arith}
 use lib.Dec.{lit<, lit≤}
-use Rattle.logarithm.specs.Logarithm.{power, lastThreshold, serviceLife, largestUpTo, logarithm, IsLargest}
+use Rattle.logarithm.specs.Logarithm.{power, lastThreshold, serviceLife, logarithm, IsLargest}
 use Rattle.logarithm.proofs.Largest.{no-more, is-reached, no-less, cut}
 
 pub never-falls : (earlier hour : ℕ) → earlier ≤ hour → logarithm earlier ≤ logarithm hour

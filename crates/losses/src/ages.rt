@@ -7,7 +7,7 @@ ghost use Rattle.fields.specs.Amounts.{over};
 ghost use Rattle.checks.specs.Quantities.{agesOf};
 ghost use Rattle.stages.specs.Bounds.{Bounded, AgesBounded};
 ghost use Rattle.stages.specs.Ages.{agedFrom};
-ghost use Rattle.stages.specs.Intervals.{transferEnd, lossesBetween, passed, EndBounded};
+ghost use Rattle.stages.specs.Intervals.{transferEnd};
 ghost use Rattle.losses.specs.RunAges.{rowBy, RanAges};
 ghost use Rattle.losses.specs.Run.{startOf};
 use checks::buffers::PER_ROW;

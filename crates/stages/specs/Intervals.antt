@@ -1,13 +1,8 @@
 -- What the run carries from one interval to the next, and what it makes of the ages: the definitions of `Ages`, over the two ends of
 -- an interval, so that each end is read once. Assumes nothing.
-use Prim.Native.Nat.{ℕ, _+_, _-_, _*_, _^_, _≤_, _<_}
-use mathlib.Core.Path.{_≡_}
-use mathlib.Core.List.{List, [], _∷_}
-use lib.ListN.{length}
+use Prim.Native.Nat.{ℕ, _+_, _-_, _≤_}
 use Rattle.coefficient.specs.Tables.{T}
 use Rattle.member.specs.declared.Member.{Member}
-use Rattle.checks.specs.Rows.{perRow}
-use Rattle.fields.specs.Amounts.{over}
 use Rattle.steps.specs.Steps.{concreteStress, creepLoss, shrinkageLoss, relaxationLoss}
 use Rattle.stages.specs.declared.Stress.{Stress}
 use Rattle.stages.specs.declared.Stress.the-variants.{Left, Gone}
@@ -17,7 +12,7 @@ use Rattle.stages.specs.declared.intervals.Passed.{Passed}
 use Rattle.stages.specs.declared.intervals.Passed.the-variants.{By, Gone as NonePassed}
 use Rattle.stages.specs.Stresses.{after}
 use Rattle.stages.specs.BeforeAges.{momentStressOf, relaxationLogarithm}
-use Rattle.stages.specs.Ages.{Aged, creepShareAt, shrinkageShareAt}
+use Rattle.stages.specs.Ages.{creepShareAt, shrinkageShareAt}
 
 -- what stands at an end of an interval: at an hour of the member, where the moments are so much
 abbrev pub endAt : Member → ℕ → ℕ → End

@@ -1,7 +1,7 @@
 -- What a double says in whole numbers: document 01, "The card", from "A host may instead lend one list of doubles" on.
 -- A double is given by its 64 bits, a number below 2 ^ 64. Assumes nothing.
 use Prim.Native.Nat.{ℕ, _+_, _-_, _*_, _/_, _%_, _^_}
-use mathlib.Core.Bool.{Bool, true, false, not, _&&_, _||_, cond}
+use mathlib.Core.Bool.{Bool, not, _&&_, _||_, cond}
 use lib.Dec.{leb, ltb, eqb}
 use Rattle.ticks.specs.declared.Amount.{Amount}
 use Rattle.ticks.specs.declared.Amount.the-variants.{Of, Refused}

@@ -5,7 +5,6 @@ use Prim.Native.Nat.{_-_}
 use native.Mathlib.Nat.{one-le-pow}
 use native.Mathlib.Omega.{arith}
 use lib.Dec.{lit<}
-use denote.Ref.{now}
 use borrow.Author.Needs.{needs}
 use Rattle.fields.specs.Layout.{columns}
 use Rattle.card.proofs.Fields.{Digits, bound, a-digit, below-digits, above-digits, all-digits}

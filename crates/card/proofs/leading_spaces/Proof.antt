@@ -1,7 +1,6 @@
 -- `leading_spaces` meets its contract. The loop's invariant: every column passed is a space, so that the spaces of the field are
 -- the columns passed and the spaces behind them. Assumes nothing.
 use Prim.Native.Nat.{_-_}
-use denote.Ref.{now}
 use borrow.Author.Needs.{needs}
 use Rattle.fields.specs.Layout.{columns}
 use Rattle.card.proofs.Fields.{Spaces, a-space, no-space, all-spaces}
