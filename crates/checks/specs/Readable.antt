@@ -2,6 +2,8 @@
 use Prim.Native.Nat.{ℕ, _≤_, _<_, _^_}
 use mathlib.Core.List.{List}
 use lib.ListN.{getD}
+use Rattle.fields.specs.declared.refusal.Reading.{Reading}
+use Rattle.fields.specs.declared.refusal.Reading.the-variants.{Fields, Not}
 use Rattle.fields.specs.Layout.{mostSegments, leastAges, mostAges}
 
 abbrev pub Small : List ℕ → Type 0
@@ -12,3 +14,8 @@ pub record Readable (segments ages : ℕ) (fields : List ℕ) : Type 0 where
   pub ages-least : leastAges ≤ ages
   pub ages-most : ages ≤ mostAges
   pub small : Small fields
+
+-- what the run requires of the fields that a reader has read
+abbrev pub ReadableIf : Reading → List ℕ → Type 0
+ReadableIf (Fields segments ages) fields = Readable segments ages fields
+ReadableIf (Not refusal) fields = Unit {0}

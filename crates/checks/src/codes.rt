@@ -4,11 +4,11 @@ ghost use Prim.Native.Nat.{_≤_};
 ghost use Rattle.fields.specs.Layout.{firstSegmentField, mostSegments};
 ghost use Rattle.checks.specs.Quantities.{segmentsOf};
 ghost use Rattle.checks.specs.Rows.{firstFailing, headCodes, segmentCodes, codes};
-use crate::places;
 use crate::row;
 use fields::layout::HEAD_FIELDS;
 use fields::layout::MOST_FIELDS;
 use fields::layout::PER_SEGMENT;
+use fields::places;
 
 fn head_codes(fields: &[u64; MOST_FIELDS]) -> u64
     ensures { λ r. ⌜ r ≡ firstFailing (headCodes (now (fields .entry))) ⌝ }

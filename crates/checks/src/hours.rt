@@ -4,13 +4,13 @@ ghost use Rattle.fields.specs.Layout.{firstAgeField};
 ghost use Rattle.checks.specs.Quantities.{agesOf, transfer};
 ghost use Rattle.checks.specs.Rows.{firstFailing, curingFits, transferFits, hoursOfAges, hours};
 ghost use Rattle.checks.specs.Readable.{Readable};
-use crate::places;
 use crate::row;
 use coefficient::clocks;
 use fields::layout::HEAD_FIELDS;
 use fields::layout::MOST_FIELDS;
 use fields::layout::PER_AGE;
 use fields::layout::PER_SEGMENT;
+use fields::places;
 
 const MOST_MOIST_CURING: u64 = 168;
 

@@ -7,83 +7,134 @@ ghost use Rattle.checks.specs.Rows.{firstFailing, lengthFits, riseFits, 
 ghost use Rattle.checks.specs.Rows.{rangesOfLine3, rangesOfLine4, rangesOfSegments, rangesOfMoments, ranges};
 ghost use Rattle.checks.specs.Readable.{Small, Readable};
 ghost use Rattle.checks.specs.Parts.{segment};
-use crate::places;
+use crate::limits;
 use crate::row;
 use fields::layout::HEAD_FIELDS;
 use fields::layout::MOST_FIELDS;
 use fields::layout::PER_AGE;
 use fields::layout::PER_SEGMENT;
-
-// 2^24
-const MOST_AREA: u64 = 16_777_216;
-
-// 2^34
-const MOST_INERTIA: u64 = 17_179_869_184;
-
-// 2^40
-const MOST_MOMENT: u64 = 1_099_511_627_776;
+use fields::places;
 
 fn line_1(fields: &[u64; MOST_FIELDS]) -> u64
     requires { ⌜ Small (now fields) ⌝ }
     ensures { λ r. ⌜ r ≡ firstFailing (rangesOfLine1 (now (fields .entry))) ⌝ }
 {
     let ultimate_strength = fields[places::ULTIMATE_STRENGTH];
-    let failing = row::first(0, 3, row::in_range(100_000, 300_000, ultimate_strength));
+    let failing = row::first(
+        0,
+        3,
+        row::in_range(
+            limits::LEAST_ULTIMATE_STRENGTH,
+            limits::MOST_ULTIMATE_STRENGTH,
+            ultimate_strength,
+        ),
+    );
     let jacking_stress = fields[places::JACKING_STRESS];
-    let most = 80 * ultimate_strength;
-    let jacking = row::both(1_000 <= jacking_stress, 100 * jacking_stress <= most);
+    let most = limits::MOST_JACKING_HUNDREDTHS * ultimate_strength;
+    let jacking = row::both(
+        limits::LEAST_JACKING_STRESS <= jacking_stress,
+        limits::HUNDREDTHS * jacking_stress <= most,
+    );
     let failing = row::first(failing, 4, jacking);
     let deflector_loss = fields[places::DEFLECTOR_LOSS];
     let pretensioned = fields[places::KIND] == places::PRETENSIONED;
     let deflector = row::either(pretensioned, deflector_loss == 0);
-    let failing = row::first(failing, 5, row::both(deflector_loss <= 20_000, deflector));
-    let failing = row::first(failing, 6, fields[places::SLIP] <= 2_048);
+    let failing = row::first(
+        failing,
+        5,
+        row::both(deflector_loss <= limits::MOST_DEFLECTOR_LOSS, deflector),
+    );
+    let failing = row::first(failing, 6, fields[places::SLIP] <= limits::MOST_SLIP);
     let length = fields[places::TENDON_LENGTH];
-    row::first(failing, 7, row::in_range(1_024, 2_097_152, length))
+    row::first(
+        failing,
+        7,
+        row::in_range(limits::LEAST_TENDON_LENGTH, limits::MOST_LENGTH, length),
+    )
 }
 
 fn line_2(fields: &[u64; MOST_FIELDS]) -> u64
     ensures { λ r. ⌜ r ≡ firstFailing (rangesOfLine2 (now (fields .entry))) ⌝ }
 {
     let es = fields[places::ES];
-    let failing = row::first(0, 10, row::in_range(20_000_000, 32_000_000, es));
+    let failing = row::first(0, 10, row::in_range(limits::LEAST_ES, limits::MOST_ES, es));
     let eci = fields[places::ECI];
-    let failing = row::first(failing, 11, row::in_range(1_000_000, 8_000_000, eci));
+    let failing = row::first(
+        failing,
+        11,
+        row::in_range(limits::LEAST_EC, limits::MOST_EC, eci),
+    );
     let ec = fields[places::EC];
-    let failing = row::first(failing, 12, row::in_range(1_000_000, 8_000_000, ec));
+    let failing = row::first(
+        failing,
+        12,
+        row::in_range(limits::LEAST_EC, limits::MOST_EC, ec),
+    );
     let volume_to_surface = fields[places::VOLUME_TO_SURFACE];
-    row::first(failing, 13, row::in_range(1_024, 65_536, volume_to_surface))
+    row::first(
+        failing,
+        13,
+        row::in_range(
+            limits::LEAST_VOLUME_TO_SURFACE,
+            limits::MOST_VOLUME_TO_SURFACE,
+            volume_to_surface,
+        ),
+    )
 }
 
 fn line_3(fields: &[u64; MOST_FIELDS]) -> u64
     ensures { λ r. ⌜ r ≡ firstFailing (rangesOfLine3 (now (fields .entry))) ⌝ }
 {
     let area = fields[places::AREA];
-    let failing = row::first(0, 14, row::in_range(1_024, MOST_AREA, area));
+    let failing = row::first(
+        0,
+        14,
+        row::in_range(limits::LEAST_AREA, limits::MOST_AREA, area),
+    );
     let inertia = fields[places::INERTIA];
-    let failing = row::first(failing, 15, row::in_range(1_024, MOST_INERTIA, inertia));
-    let failing = row::first(failing, 16, fields[places::ECCENTRICITY] <= 65_536);
+    let failing = row::first(
+        failing,
+        15,
+        row::in_range(limits::LEAST_INERTIA, limits::MOST_INERTIA, inertia),
+    );
+    let failing = row::first(
+        failing,
+        16,
+        fields[places::ECCENTRICITY] <= limits::MOST_ECCENTRICITY,
+    );
     let steel_area = fields[places::STEEL_AREA];
-    let failing = row::first(failing, 17, row::in_range(1, 65_536, steel_area));
+    let failing = row::first(
+        failing,
+        17,
+        row::in_range(
+            limits::LEAST_STEEL_AREA,
+            limits::MOST_STEEL_AREA,
+            steel_area,
+        ),
+    );
     let own_weight = fields[places::OWN_WEIGHT_MOMENT];
-    row::first(failing, 18, own_weight <= MOST_MOMENT)
+    row::first(failing, 18, own_weight <= limits::MOST_MOMENT)
 }
 
 fn line_4(fields: &[u64; MOST_FIELDS]) -> u64
     ensures { λ r. ⌜ r ≡ firstFailing (rangesOfLine4 (now (fields .entry))) ⌝ }
 {
-    let failing = row::first(0, 21, fields[places::WOBBLE] <= 2_000);
-    row::first(failing, 22, fields[places::CURVATURE] <= 400_000)
+    let failing = row::first(0, 21, fields[places::WOBBLE] <= limits::MOST_WOBBLE);
+    row::first(
+        failing,
+        22,
+        fields[places::CURVATURE] <= limits::MOST_CURVATURE,
+    )
 }
 
 fn length_fits(kind: u64, length: u64, rise: u64) -> bool
     ensures { λ r. ⌜ r ≡ lengthFits (segment kind length rise) ⌝ }
 {
     if kind == places::STRAIGHT {
-        return row::in_range(1, 2_097_152, length);
+        return row::in_range(limits::LEAST_STRAIGHT, limits::MOST_LENGTH, length);
     }
     if kind == places::PARABOLA {
-        return row::in_range(1_024, 2_097_152, length);
+        return row::in_range(limits::LEAST_PARABOLA, limits::MOST_LENGTH, length);
     }
     length == 0
 }
@@ -95,9 +146,9 @@ fn rise_fits(kind: u64, length: u64, rise: u64) -> bool
         return rise == 0;
     }
     if kind == places::PARABOLA {
-        return rise <= 65_536;
+        return rise <= limits::MOST_RISE;
     }
-    rise <= 4_096
+    rise <= limits::MOST_BEND
 }
 
 fn segment_ranges(fields: &[u64; MOST_FIELDS], segments: usize) -> u64
@@ -131,7 +182,7 @@ fn moment_ranges(fields: &[u64; MOST_FIELDS], segments: usize, ages: usize) -> u
     while age < ages {
         let at = first_age + PER_AGE * age;
         moments += fields[at + 1];
-        let failing = row::first(0, (at + 2) as u64, moments <= MOST_MOMENT);
+        let failing = row::first(0, (at + 2) as u64, moments <= limits::MOST_MOMENT);
         if failing != 0 {
             return failing;
         }

@@ -35,7 +35,7 @@ pub fn mcf_of(cure: Cure, transfer: u32) -> u64
 {
     match cure {
         Cure::Moist => tables::table_reading(Table::Mcf, 0, transfer),
-        Cure::Accelerated => 72_000,
+        Cure::Accelerated => tables::MCF_UNIT,
     }
 }
 
@@ -64,7 +64,24 @@ pub fn relaxation_logarithm(
     logarithm::reading(thresholds, clock.0)
 }
 
+// UCR and USH: where they begin, what a psi of Ec takes from them, and the least they can be.
+const UCR_MOIST_NORMAL: u64 = 95_000_000;
+
+const UCR_MOIST_LIGHTWEIGHT: u64 = 76_000_000;
+
+const UCR_ACCELERATED: u64 = 63_000_000;
+
+const UCR_A_PSI: u64 = 20;
+
 const UCR_LEAST: u64 = 11_000_000;
+
+const USH_NORMAL: u64 = 27_000_000_000;
+
+const USH_NORMAL_A_PSI: u64 = 3_000;
+
+const USH_LIGHTWEIGHT: u64 = 41_000_000_000;
+
+const USH_LIGHTWEIGHT_A_PSI: u64 = 10_000;
 
 const USH_LEAST: u64 = 12_000_000_000;
 
@@ -87,12 +104,12 @@ pub fn ucr_of(cure: Cure, concrete: Concrete, ec: u32) -> u64
 {
     let base = match cure {
         Cure::Moist => match concrete {
-            Concrete::Normal => 95_000_000,
-            Concrete::Lightweight => 76_000_000,
+            Concrete::Normal => UCR_MOIST_NORMAL,
+            Concrete::Lightweight => UCR_MOIST_LIGHTWEIGHT,
         },
-        Cure::Accelerated => 63_000_000,
+        Cure::Accelerated => UCR_ACCELERATED,
     };
-    reduced(base, 20 * (ec as u64), UCR_LEAST)
+    reduced(base, UCR_A_PSI * (ec as u64), UCR_LEAST)
 }
 
 // The whole shrinkage, in millionths of psi.
@@ -100,7 +117,11 @@ pub fn ush_of(concrete: Concrete, ec: u32) -> u64
     ensures { λ r. ⌜ r ≡ ush concrete ec ⌝ }
 {
     match concrete {
-        Concrete::Normal => reduced(27_000_000_000, 3_000 * (ec as u64), USH_LEAST),
-        Concrete::Lightweight => reduced(41_000_000_000, 10_000 * (ec as u64), USH_LEAST),
+        Concrete::Normal => reduced(USH_NORMAL, USH_NORMAL_A_PSI * (ec as u64), USH_LEAST),
+        Concrete::Lightweight => reduced(
+            USH_LIGHTWEIGHT,
+            USH_LIGHTWEIGHT_A_PSI * (ec as u64),
+            USH_LEAST,
+        ),
     }
 }

@@ -26,6 +26,11 @@ const DAY: u32 = 24;
 
 const HUNDRED: u64 = 100;
 
+// What 1.00 reads of SCF and SSF, and of MCF.
+const FACTOR_UNIT: u64 = 102_400;
+
+pub const MCF_UNIT: u64 = 72_000;
+
 fn scf_row(place: u32) -> Row
     requires { ⌜ place < length scfRows ⌝ }
     ensures { λ r. ⌜ r ≡ getD scfRows place (row 0 0) ⌝ }
@@ -140,9 +145,9 @@ fn unit_of(table: Table) -> u64
     ensures { λ r. ⌜ r ≡ unitOf table ⌝ }
 {
     match table {
-        Table::Scf => 102_400,
-        Table::Ssf => 102_400,
-        Table::Mcf => 72_000,
+        Table::Scf => FACTOR_UNIT,
+        Table::Ssf => FACTOR_UNIT,
+        Table::Mcf => MCF_UNIT,
         Table::CreepShare => T,
         Table::ShrinkageShare => T,
     }

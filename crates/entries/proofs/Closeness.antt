@@ -3,10 +3,8 @@
 use mathlib.Core.Path.{_≡_, refl}
 use mathlib.Core.List.{List}
 use Prim.Native.Nat.{ℕ, _≤_}
-use lib.ListN.{length}
 use Rattle.fields.specs.declared.refusal.Reading.{Reading}
 use Rattle.fields.specs.declared.refusal.Reading.the-variants.{Fields, Not}
-use Rattle.fields.specs.Amounts.{Outcome}
 use Rattle.fields.specs.Layout.{mostSegments, mostAges}
 use Rattle.member.specs.declared.Member.{Member}
 use Rattle.member.specs.declared.Checked.{Checked}
@@ -14,10 +12,9 @@ use Rattle.member.specs.declared.Checked.the-variants.{Accepted, Refused}
 use Rattle.checks.specs.Quantities.{agesOf}
 use Rattle.member.specs.Member.{checkedOf}
 use Rattle.member.proofs.Laws.{accepted}
-use Rattle.losses.specs.declared.Answer.{Answer}
-use Rattle.losses.specs.Run.{Result, reported, refused, memberResult, resultOfChecked, resultOfReading, Ran}
+use Rattle.losses.specs.Run.{Result, reported, refused, memberResult, resultOfChecked, resultOfReading}
 use Rattle.tolerance.proofs.Demand3.{demand-3}
-use Rattle.entries.specs.Promise.{resultOf, CloseRun, CloseResult, Promise}
+use Rattle.entries.specs.Promise.{CloseRun, CloseResult}
 
 module _ (segments ages : ℕ) (fields : List ℕ) (few-segments : segments ≤ mostSegments) (few-ages : ages ≤ mostAges)
     (report scratch : ℕ) where
@@ -34,18 +31,10 @@ module _ (segments ages : ℕ) (fields : List ℕ) (few-segments : segments ≤ 
   checked-close (Accepted m) e = member-close m e (memberResult m (agesOf segments ages fields)) refl
 
 -- what a reader gives is close, if the counts that it reads are in their ranges
-close : (reading : Reading) (fields : List ℕ) (report scratch : ℕ)
+pub close : (reading : Reading) (fields : List ℕ) (report scratch : ℕ)
     → ((segments ages : ℕ) → reading ≡ Fields segments ages → (segments ≤ mostSegments) × (ages ≤ mostAges))
     → CloseResult reading fields (resultOfReading reading fields report scratch)
 close (Not refusal) fields report scratch counts = tt
 close (Fields segments ages) fields report scratch counts =
     let few = counts segments ages refl in
     checked-close segments ages fields (few .0) (few .1) report scratch (checkedOf segments ages fields report scratch) refl
-
--- an exact answer of what a reader gives keeps the promise
-pub promise : (outcome : Outcome)
-    → ((segments ages : ℕ) → outcome .reading ≡ Fields segments ages → (segments ≤ mostSegments) × (ages ≤ mostAges))
-    → {answer : Answer} {report reportWas scratch scratchWas : List ℕ}
-    → Ran (resultOf outcome (length reportWas) (length scratchWas)) answer report reportWas scratch scratchWas
-    → Promise outcome answer report reportWas scratch scratchWas
-promise outcome counts ran = record { exact = ran; close = close (outcome .reading) (outcome .numbers) _ _ counts }

@@ -1,45 +1,64 @@
--- What a reader's outcome gives, of a card or of a list: its refusal, or the run of its fields. The fields are lent with zeros behind
--- those that were read, which changes nothing. Assumes nothing.
-use mathlib.Core.Path.{_≡_}
+-- What a reader gives, of a card or of a list, with its fields lent and zeros behind those that were read: the zeros change nothing, so
+-- that an exact run of the lent fields keeps the promise. Assumes nothing.
+use mathlib.Core.Path.{_≡_, sym}
 use mathlib.Core.List.{List}
 use Prim.Native.Nat.{ℕ, _≤_}
-use lib.ListN.{replicate}
-use Rattle.fields.specs.declared.refusal.Refusal.{Refusal}
+use lib.ListN.{length, replicate}
 use Rattle.fields.specs.declared.refusal.Reading.{Reading}
 use Rattle.fields.specs.declared.refusal.Reading.the-variants.{Fields, Not}
-use Rattle.fields.specs.Layout.{mostFields, mostSegments, leastAges, mostAges}
-use Rattle.fields.specs.Amounts.{over}
-use Rattle.checks.specs.Quantities.{agesOf}
-use Rattle.checks.specs.Readable.{Small, Readable}
-use Rattle.member.specs.Member.{checkedOf}
-use Rattle.losses.specs.declared.Answer.the-variants.{Refused}
-use Rattle.losses.specs.Run.{resultOfChecked, resultOfReading, Ran}
+use Rattle.fields.specs.Layout.{mostFields, mostSegments, mostAges}
+use Rattle.fields.specs.Amounts.{Outcome, over}
+use Rattle.fields.proofs.Accepted.{Accepted}
+use Rattle.checks.specs.Readable.{ReadableIf}
+use Rattle.losses.specs.declared.Answer.{Answer}
+use Rattle.losses.specs.Run.{resultOfReading, Ran}
+use Rattle.entries.specs.Promise.{resultOf, CloseResult, Promise}
+use Rattle.entries.proofs.Closeness.{close}
 use Rattle.entries.proofs.Padding.{Same, same-ages, same-checked, over-zeros}
-use Rattle.losses.proofs.Answering.{refused-early}
 
-module _ (reading : Reading) (numbers : List ℕ) where
-  -- what cannot be read
-  pub unread : (refusal : Refusal) (report scratch : List ℕ) (reportRoom scratchRoom : ℕ) → reading ≡ Not refusal
-      → Ran (resultOfReading reading numbers reportRoom scratchRoom) (Refused refusal) report report scratch scratch
-  unread refusal report scratch reportRoom scratchRoom e =
-      refused-early refusal (resultOfReading reading numbers reportRoom scratchRoom) report scratch (rw e)
+module _ (outcome : Outcome)
+    (counted : (segments ages : ℕ) → outcome .reading ≡ Fields segments ages → Accepted (outcome .numbers) segments ages) where
+  few : (segments ages : ℕ) → outcome .reading ≡ Fields segments ages → (segments ≤ mostSegments) × (ages ≤ mostAges)
+  few segments ages e = let good = counted segments ages e in (good .few-segments, good .few-ages)
 
-  module _ (segments ages : ℕ) (fields : List ℕ) (is : fields ≡ over numbers (replicate mostFields 0)) where
-    same : Same fields numbers
-    same = rw is (over-zeros numbers mostFields)
+  -- every result is close
+  pub all-close : (report scratch : ℕ) → CloseResult (outcome .reading) (outcome .numbers) (resultOf outcome report scratch)
+  all-close report scratch = close (outcome .reading) (outcome .numbers) report scratch few
+
+  module _ (reading : Reading) (fields : List ℕ) (is : reading ≡ outcome .reading)
+      (fields-are : fields ≡ over (outcome .numbers) (replicate mostFields 0)) where
+    same : Same fields (outcome .numbers)
+    same = rw fields-are (over-zeros (outcome .numbers) mostFields)
 
     -- the run requires what the numbers have
-    pub readable : segments ≤ mostSegments → leastAges ≤ ages → ages ≤ mostAges → Small numbers → Readable segments ages fields
-    readable s least most small = record {
-      segments-most = s;
-      ages-least = least;
-      ages-most = most;
-      small = λ k. rw (same k) (small k);
-    }
+    pub readable-if : ReadableIf reading fields
+    readable-if = by reading is
+      where
+        by : (r : Reading) → r ≡ outcome .reading → ReadableIf r fields
+        by (Not refusal) e = tt
+        by (Fields segments ages) e =
+            let good = counted segments ages (sym e) in
+            record {
+              segments-most = good .few-segments;
+              ages-least = good .enough-ages;
+              ages-most = good .few-ages;
+              small = λ k. rw (same k) (good .below k);
+            }
 
-    -- what the fields give is what the reader's outcome gives
-    pub gives : (report scratch : ℕ) → reading ≡ Fields segments ages
-        → resultOfChecked (agesOf segments ages fields) (checkedOf segments ages fields report scratch)
-        ≡ resultOfReading reading numbers report scratch
-    gives report scratch e =
-        rw (e, same-ages segments ages fields numbers same, same-checked segments ages fields numbers same report scratch)
+    -- what the lent fields give is what the reader's outcome gives
+    pub same-result : (report scratch : ℕ) → resultOfReading reading fields report scratch ≡ resultOf outcome report scratch
+    same-result report scratch = by reading is
+      where
+        by : (r : Reading) → r ≡ outcome .reading → resultOfReading r fields report scratch ≡ resultOf outcome report scratch
+        by (Not refusal) e = rw (← e)
+        by (Fields segments ages) e =
+            rw (
+              ← e,
+              same-ages segments ages fields (outcome .numbers) same,
+              same-checked segments ages fields (outcome .numbers) same report scratch,
+            )
+
+    pub promised : {answer : Answer} {report reportWas scratch scratchWas : List ℕ}
+        → Ran (resultOfReading reading fields (length reportWas) (length scratchWas)) answer report reportWas scratch scratchWas
+        → Promise outcome answer report reportWas scratch scratchWas
+    promised ran = record { exact = rw same-result at ran; close = all-close _ _ }

@@ -105,11 +105,10 @@ renamed : {numbers : List ℕ} {segments ages s n : ℕ}
     → (segments ≡ s) × (ages ≡ n) → Accepted numbers segments ages → Accepted numbers s n
 renamed e known = rw (← e .0, ← e .1) known
 
--- A list that is read has these counts.
-pub accepted-list : (list : List Float) {s n : ℕ}
-    → listOutcome list .reading ≡ Fields s n → Accepted (listOutcome list .numbers) s n
+-- what is known of a list that is read
+pub list-accepted : (list : List Float) (s n : ℕ) → listOutcome list .reading ≡ Fields s n → Accepted (listOutcome list .numbers) s n
 unfolding listOutcome
-accepted-list list {s} {n} e = by-counts (countsIn list) refl e
+list-accepted list s n e = by-counts (countsIn list) refl e
   where
     by-counts : (reading : Reading) → countsIn list ≡ reading → withCounts reading list .reading ≡ Fields s n
         → Accepted (withCounts reading list .numbers) s n

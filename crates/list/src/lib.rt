@@ -18,29 +18,19 @@ use fields::layout::PER_AGE;
 use fields::layout::PER_SEGMENT;
 use fields::layout::SEGMENTS;
 use fields::layout::SLIP;
+use fields::places;
 use fields::refusal::Reading;
 use fields::refusal::Refusal;
 use ticks::Amount;
 
 // Fields by their numbers in document 01: field k is element k - 1 of a list.
-const LENGTH: usize = 7;
+const LENGTH: usize = places::TENDON_LENGTH + 1;
 
-const VOLUME_TO_SURFACE: usize = 13;
+const VOLUME_TO_SURFACE: usize = places::VOLUME_TO_SURFACE + 1;
 
-const AREA: usize = 14;
+const AREA: usize = places::AREA + 1;
 
-const INERTIA: usize = 15;
-
-const ECCENTRICITY: usize = 16;
-
-const STEEL_AREA: usize = 17;
-
-const OWN_WEIGHT_MOMENT: usize = 18;
-
-// Kinds of a segment.
-const STRAIGHT: u64 = 1;
-
-const BEND: u64 = 3;
+const OWN_WEIGHT_MOMENT: usize = places::OWN_WEIGHT_MOMENT + 1;
 
 // The section's five measures: fields 14 to 18.
 pub struct Section {
@@ -63,11 +53,11 @@ fn section_of(list: &[f64]) -> Section
     ensures { λ r. ⌜ r ≡ sectionOf (now (list .entry)) ⌝ }
 {
     Section {
-        area: list[AREA - 1],
-        inertia: list[INERTIA - 1],
-        eccentricity: list[ECCENTRICITY - 1],
-        steel_area: list[STEEL_AREA - 1],
-        own_weight_moment: list[OWN_WEIGHT_MOMENT - 1],
+        area: list[places::AREA],
+        inertia: list[places::INERTIA],
+        eccentricity: list[places::ECCENTRICITY],
+        steel_area: list[places::STEEL_AREA],
+        own_weight_moment: list[places::OWN_WEIGHT_MOMENT],
     }
 }
 
@@ -98,10 +88,10 @@ fn is(amount: Amount, number: u64) -> bool
 fn segment_of(kind: f64, second: f64, third: f64) -> Segment
     ensures { λ r. ⌜ r ≡ segmentOf kind second third ⌝ }
 {
-    if is(ticks::whole_of_double(kind), STRAIGHT) && is(ticks::ticks_of_double(third), 0) {
+    if is(ticks::whole_of_double(kind), places::STRAIGHT) && is(ticks::ticks_of_double(third), 0) {
         return Segment::Straight(second);
     }
-    if is(ticks::whole_of_double(kind), BEND) && is(ticks::ticks_of_double(second), 0) {
+    if is(ticks::whole_of_double(kind), places::BEND) && is(ticks::ticks_of_double(second), 0) {
         return Segment::Bend(third);
     }
     Segment::Parabola {

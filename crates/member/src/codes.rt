@@ -3,10 +3,10 @@ ghost use mathlib.Core.Path.{_≡_};
 ghost use mathlib.Core.Bool.{cond};
 ghost use lib.Dec.{eqb};
 use crate::Steel;
-use checks::places;
 use coefficient::codes::Concrete;
 use coefficient::codes::Cure;
 use coefficient::codes::Kind;
+use fields::places;
 
 pub fn kind_of(code: u64) -> Kind
     ensures { λ r. ⌜ r ≡ cond (eqb code 1) Kind.Pretensioned Kind.PostTensioned ⌝ }

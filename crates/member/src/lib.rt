@@ -10,9 +10,9 @@ pub mod codes;
 pub mod friction;
 pub mod section;
 
-use checks::places;
 use coefficient::clocks::MemberHours;
 use fields::layout::MOST_FIELDS;
+use fields::places;
 use fields::refusal::Refusal;
 
 pub enum Steel {

@@ -25,7 +25,7 @@ use Rattle.fields.specs.Layout.{segmentsField, agesField, mostSegments, leastAg
 use Rattle.fields.specs.Layout.{headFields, mostFields, fieldsIn}
 use Rattle.fields.specs.Amounts.{refused as notRead}
 use Rattle.fields.proofs.Accepted.{Accepted}
-use Rattle.list.proofs.Laws.{accepted-list}
+use Rattle.list.proofs.Laws.{list-accepted}
 use Rattle.list.specs.Lists.{amountIn, inTicks, amountsOf, withCount, countIn, countsIn, withCounts, listOutcome}
 use Rattle.numbers.specs.Numbers.{room, numbersFrom, doublesOf, bytesOutcome}
 use Rattle.numbers.specs.Parts.{standsFor, mostDoubles}
@@ -225,5 +225,5 @@ bytes-accepted list segments ages e = by (eqb (length list % bytesPerNumber) 0) 
   where
     by : (b : Bool) → cond b (listOutcome (doublesOf list)) (notRead (Shape 0) []) .reading ≡ Fields segments ages
         → Accepted (cond b (listOutcome (doublesOf list)) (notRead (Shape 0) []) .numbers) segments ages
-    by true e = accepted-list (doublesOf list) e
+    by true e = list-accepted (doublesOf list) segments ages e
     by false e = absurd (let never : _≡_ {A = ℕ} 0 1 = cc in omega arith)

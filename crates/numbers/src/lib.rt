@@ -11,14 +11,11 @@ ghost use Rattle.numbers.specs.Parts.{standsFor, mostDoubles};
 use fields::layout::MOST_FIELDS;
 use fields::refusal::Reading;
 use fields::refusal::Refusal;
-
-const BYTES_PER_NUMBER: usize = 8;
+use ticks::BYTES_PER_NUMBER;
+use ticks::MINUS_ZERO;
 
 // One more than the most fields.
 const MOST_DOUBLES: usize = MOST_FIELDS + 1;
-
-// 2^63: the bits of -0.0.
-const MINUS_ZERO: u64 = 0x8000_0000_0000_0000;
 
 // The bits of infinity; a NaN's are above them, but for the sign.
 const INFINITY: u64 = 0x7FF0_0000_0000_0000;

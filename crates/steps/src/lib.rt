@@ -11,6 +11,20 @@ use ticks::TICKS_PER_UNIT;
 // 2^32: what κ is in parts of.
 const KAPPA_UNIT: u64 = 4_294_967_296;
 
+const INCHES_TO_A_FOOT: u64 = 12;
+
+// Y: 0.85 F and 0.90 F.
+const STRESS_RELIEVED_YIELD: u64 = 85;
+
+const LOW_RELAXATION_YIELD: u64 = 90;
+
+const HUNDREDTHS: u64 = 100;
+
+// D
+const STRESS_RELIEVED_DIVISOR: u64 = 2_560;
+
+const LOW_RELAXATION_DIVISOR: u64 = 11_520;
+
 // 0.55 T and 0.05 T, rounded.
 const FREE_OF_RELAXATION: u64 = 9_227_468;
 
@@ -35,7 +49,7 @@ pub fn slip_loss(es: u64, slip: u64, length: u64) -> u64
     requires { ⌜ (1 ≤ length) × (length < 2 ^ 22) ⌝ }
     ensures { λ r. ⌜ r ≡ slipLoss es slip length ⌝ }
 {
-    es * slip * TICKS_PER_UNIT / (12 * length)
+    es * slip * TICKS_PER_UNIT / (INCHES_TO_A_FOOT * length)
 }
 
 pub fn deflector_ticks(deflector_loss: u64) -> u64
@@ -50,8 +64,10 @@ fn yield_of(steel: Steel, ultimate_strength: u64) -> u64
     ensures { λ r. ⌜ r ≡ yield steel «ultimate_strength» ⌝ }
 {
     match steel {
-        Steel::StressRelieved => 85 * ultimate_strength * TICKS_PER_UNIT / 100,
-        Steel::LowRelaxation => 90 * ultimate_strength * TICKS_PER_UNIT / 100,
+        Steel::StressRelieved => STRESS_RELIEVED_YIELD * ultimate_strength * TICKS_PER_UNIT
+            / HUNDREDTHS,
+        Steel::LowRelaxation => LOW_RELAXATION_YIELD * ultimate_strength * TICKS_PER_UNIT
+            / HUNDREDTHS,
     }
 }
 
@@ -59,8 +75,8 @@ fn relaxation_divisor(steel: Steel) -> u64
     ensures { λ r. ⌜ r ≡ relaxationDivisor steel ⌝ }
 {
     match steel {
-        Steel::StressRelieved => 2_560,
-        Steel::LowRelaxation => 11_520,
+        Steel::StressRelieved => STRESS_RELIEVED_DIVISOR,
+        Steel::LowRelaxation => LOW_RELAXATION_DIVISOR,
     }
 }
 

@@ -4,10 +4,7 @@ use Prim.Native.Nat.{ℕ, _*_, _≤_}
 use mathlib.Core.Path.{_≡_}
 use mathlib.Core.List.{List}
 use lib.ListN.{take}
-use Rattle.fields.specs.declared.refusal.Reading.{Reading}
-use Rattle.fields.specs.declared.refusal.Reading.the-variants.{Fields, Not}
 use Rattle.fields.specs.Layout.{mostAges}
-use Rattle.checks.specs.Readable.{Readable}
 use Rattle.checks.specs.Rows.{perRow}
 use Rattle.losses.specs.declared.Answer.{Answer}
 use Rattle.losses.specs.Run.{Result, reported, refused, Answered}
@@ -15,11 +12,6 @@ use Rattle.losses.specs.Run.{Result, reported, refused, Answered}
 -- the most numbers that a run can ask a buffer for
 abbrev pub mostNumbers : ℕ
 mostNumbers = perRow * mostAges
-
--- what the run requires of the fields that a reader has read
-abbrev pub ReadableIf : Reading → List ℕ → Type 0
-ReadableIf (Fields segments ages) fields = Readable segments ages fields
-ReadableIf (Not refusal) fields = Unit {0}
 
 -- the rows of an accepted run at the front of some numbers, and the report's room for them
 abbrev pub Front : Result → ℕ → ℕ → List ℕ → Type 0

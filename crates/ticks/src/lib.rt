@@ -24,7 +24,7 @@ pub enum Decoded {
 }
 
 // 2^63: the bits of -0.0.
-const MINUS_ZERO: u64 = 0x8000_0000_0000_0000;
+pub const MINUS_ZERO: u64 = 0x8000_0000_0000_0000;
 // 2^52: the least exponent above 0, and the leading digit of a significand.
 const LEADING: u64 = 0x10_0000_0000_0000;
 // The exponent of 2^31.
@@ -39,7 +39,9 @@ pub const TICKS_PER_UNIT: u64 = 1024;
 // A unit is 2^10 ticks.
 const TICK_DOUBLINGS: u64 = 10;
 
-const BYTES_PER_NUMBER: usize = 8;
+pub const BYTES_PER_NUMBER: usize = 8;
+
+const BYTE_VALUES: u64 = 256;
 
 // The one decoder. The significand has 53 digits, so that a cut of more leaves 0.
 fn decode(bits: u64, doublings: u64) -> Decoded
@@ -141,7 +143,7 @@ pub fn read_number(part: &[u8]) -> u64
     let mut number: u64 = 0;
     while 0 < left {
         left -= 1;
-        number = number * 256 + wide(part[left]);
+        number = number * BYTE_VALUES + wide(part[left]);
     }
     number
 }
@@ -153,8 +155,8 @@ pub fn write_number(part: &mut [u8], number: u64)
     let mut rest = number;
     let mut at = 0usize;
     while at < BYTES_PER_NUMBER && at < part.len() {
-        part[at] = (rest % 256) as u8;
-        rest = rest / 256;
+        part[at] = (rest % BYTE_VALUES) as u8;
+        rest = rest / BYTE_VALUES;
         at += 1;
     }
 }

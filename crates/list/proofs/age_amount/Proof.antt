@@ -1,4 +1,4 @@
--- `fields::list::age_amount` meets its contract: the hour is whole and the moment in ticks. Assumes nothing.
+-- `list::age_amount` meets its contract: the hour is whole and the moment in ticks. Assumes nothing.
 use native.Mathlib.Omega.{arith}
 use borrow.Author.Needs.{needs}
 use Rattle.list.proofs.Fields.{age-whole, age-in-ticks}

@@ -1,4 +1,4 @@
--- `fields::list::amount_at` meets its contract: the tests say whether the field stands in the head, among the segments or the ages.
+-- `list::amount_at` meets its contract: the tests say whether the field stands in the head, among the segments or the ages.
 -- Assumes nothing.
 use denote.Ref.{now}
 use borrow.Author.Needs.{needs}

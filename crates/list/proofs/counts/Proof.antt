@@ -1,4 +1,4 @@
--- `fields::list::counts` meets its contract: each way out puts the tests that led to it into the definition. Assumes nothing.
+-- `list::counts` meets its contract: each way out puts the tests that led to it into the definition. Assumes nothing.
 use mathlib.Core.Path.{sym, _∙_}
 use native.Mathlib.Omega.{arith}
 use denote.Ref.{now}

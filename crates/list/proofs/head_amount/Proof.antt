@@ -1,4 +1,4 @@
--- `fields::list::head_amount` meets its contract: the arms of the match say where the field stands, and so how it is kept. Assumes
+-- `list::head_amount` meets its contract: the arms of the match say where the field stands, and so how it is kept. Assumes
 -- nothing.
 use mathlib.Core.Logic.{⊎-elim, inl, inr}
 use native.Mathlib.Omega.{arith}

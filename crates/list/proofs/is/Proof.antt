@@ -1,4 +1,4 @@
--- `fields::list::is` meets its contract: by the amount's two cases. Assumes nothing.
+-- `list::is` meets its contract: by the amount's two cases. Assumes nothing.
 use borrow.Author.Needs.{needs}
 use Rattle.list.proofs.is.Statement.{statement}
 use Rattle.list.proofs.is.Tie as tie

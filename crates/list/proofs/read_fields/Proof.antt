@@ -1,4 +1,4 @@
--- `fields::list::read_fields` meets its contract. The loop's invariant: the first `at` fields are read, and their numbers stand at the
+-- `list::read_fields` meets its contract. The loop's invariant: the first `at` fields are read, and their numbers stand at the
 -- front. The measure is how many fields are left. Assumes nothing.
 use Prim.Native.Nat.{_-_}
 use native.Mathlib.Omega.{arith}

@@ -1,4 +1,4 @@
--- `fields::list::read_list` meets its contract: the counts are refused, or as many fields are read as the list has, or fewer. Assumes
+-- `list::read_list` meets its contract: the counts are refused, or as many fields are read as the list has, or fewer. Assumes
 -- nothing.
 use native.Mathlib.Omega.{arith}
 use denote.Ref.{now}

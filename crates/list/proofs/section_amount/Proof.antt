@@ -1,4 +1,4 @@
--- `fields::list::section_amount` meets its contract: the measure is known in each arm, where the list of measures computes. Assumes
+-- `list::section_amount` meets its contract: the measure is known in each arm, where the list of measures computes. Assumes
 -- nothing.
 use mathlib.Core.Path.{_≡_}
 use native.Mathlib.Omega.{arith}

@@ -1,4 +1,4 @@
--- `fields::list::segment_amount` meets its contract: a segment gives both its measures back, whichever form it has, and the part says
+-- `list::segment_amount` meets its contract: a segment gives both its measures back, whichever form it has, and the part says
 -- which of the three doubles is meant. Assumes nothing.
 use denote.Ref.{now}
 use borrow.Author.Needs.{needs}

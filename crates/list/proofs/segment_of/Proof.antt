@@ -1,4 +1,4 @@
--- `fields::list::segment_of` meets its contract: each test's answer is put into the definition. A test of two parts that failed has
+-- `list::segment_of` meets its contract: each test's answer is put into the definition. A test of two parts that failed has
 -- one part that failed. Assumes nothing.
 use mathlib.Core.Path.{_≡_}
 use mathlib.Core.Logic.{⊎-elim}
