@@ -1,5 +1,3 @@
 pub mod Laws
-mod Fields
-mod Line
 mod Lines
 mod Outcome

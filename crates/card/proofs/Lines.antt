@@ -1,7 +1,7 @@
 -- Lines one after the other: groups of them chain, and a buffer written over from the end of what is done on is the whole written
 -- over. Assumes nothing.
 use mathlib.Core.Path.{_≡_, refl, sym, ap, _∙_}
-use mathlib.Core.Bool.{Bool, true, false, _&&_}
+use mathlib.Core.Bool.{Bool, true, false, and-eq-true-iff}
 use mathlib.Core.List.{List, [], _∷_, _++_, append-assoc, append-nil}
 use Prim.Native.Nat.{ℕ, suc, _+_, _-_, _*_, _≤_, _<_}
 use native.Mathlib.Nat.{zero-add, add-zero, add-assoc}
@@ -14,9 +14,9 @@ use borrow.Author.Tests.{leb-true, eqb-true}
 use borrow.Rule.Slice.PartMut.{midOf, putMid}
 use Rattle.fields.specs.Amounts.{numbersIn, allRead, over}
 use Rattle.fields.specs.Layout.{columns}
-use Rattle.card.specs.Card.{lineFeed, lineLength, amountsOf, isShaped, isRight, lineNumbers}
+use Rattle.line.specs.Line.{lineFeed, lineLength, amountsOf, isShaped, isRight, lineNumbers}
 use Rattle.card.specs.Card.{Lines, readLines, fieldsOn}
-use Rattle.card.proofs.Line.{amounts-length, tail, Line}
+use Rattle.line.proofs.Amounts.{amounts-length, tail, Line}
 
 -- ---- buffers
 
@@ -41,24 +41,18 @@ lent done more old buffer part at e is written =
 
 -- ---- a line that is right
 
-pub and-left : (a b : Bool) → (a && b) ≡ true → a ≡ true
-and-left true b h = refl
-and-left false b h = h
-
-pub and-right : (a b : Bool) → (a && b) ≡ true → b ≡ true
-and-right true b h = h
-and-right false b h = absurd (let z : _≡_ {A = ℕ} 0 1 = cc in omega arith)
-
 pub right-line : (count field : ℕ) (bytes : List ℕ) → isRight count field bytes ≡ true
     → (lineLength count ≤ length bytes) × (length (lineNumbers count field bytes) ≡ count)
 right-line count field bytes h =
     let amounts = amountsOf count field bytes in
-    let shaped : isShaped count bytes ≡ true = and-left (isShaped count bytes) (allRead amounts) h in
-    let long = and-left (leb (lineLength count) (length bytes)) (eqb (getD bytes (columns * count) 0) lineFeed) shaped in
+    let right = and-eq-true-iff (isShaped count bytes) (allRead amounts) .0 h in
+    let shaped : isShaped count bytes ≡ true = right .0 in
+    let ended = and-eq-true-iff (leb (lineLength count) (length bytes)) (eqb (getD bytes (columns * count) 0) lineFeed) .0 shaped in
+    let long = ended .0 in
     let numbers : lineNumbers count field bytes ≡ numbersIn amounts = rw shaped in (
       leb-true (lineLength count) (length bytes) long,
       ap length numbers
-          ∙ eqb-true (length (numbersIn amounts)) (length amounts) (and-right (isShaped count bytes) (allRead amounts) h)
+          ∙ eqb-true (length (numbersIn amounts)) (length amounts) (right .1)
           ∙ amounts-length count field bytes,
     )
 

@@ -16,9 +16,10 @@ use Rattle.fields.specs.declared.refusal.Reading.the-variants.{Fields, Not}
 use Rattle.fields.specs.Layout.{segmentsField, agesField, mostSegments, leastAges, mostAges, perSegment, perAge}
 use Rattle.fields.specs.Layout.{headFields, firstSegmentField, mostFields}
 use Rattle.fields.specs.Amounts.{over, Outcome, refused, accepted}
-use Rattle.card.specs.Card.{lineLength, Lines, readLines, fieldsOn, headLines, head, firstSegmentLine, lineBehind}
+use Rattle.line.specs.Line.{lineLength}
+use Rattle.card.specs.Card.{Lines, readLines, fieldsOn, headLines, head, firstSegmentLine, lineBehind}
 use Rattle.card.specs.Card.{announcedOf, segmentsIn, agesIn, announced, firstWrong, cardOutcome}
-use Rattle.card.proofs.Line.{tail}
+use Rattle.line.proofs.Amounts.{tail}
 use Rattle.card.proofs.Lines.{lent, length-over, bytesOn, Right, lines-right}
 use Rattle.card.proofs.Lines.{andThen, readLines-append, readLines-stops, LinesRead}
 

@@ -1,11 +1,9 @@
 // The reader of cards.
 ghost use mathlib.Core.Path.{_≡_};
-ghost use Prim.Native.Nat.{_+_, _*_, _^_, _≤_, _<_};
-ghost use lib.ListN.{length, take, drop};
+ghost use Prim.Native.Nat.{_+_, _*_, _≤_, _<_};
+ghost use lib.ListN.{length};
 ghost use Rattle.fields.specs.Layout.{mostFields, mostSegments, mostAges, perSegment, perAge};
 ghost use Rattle.fields.specs.Amounts.{over};
-ghost use Rattle.fields.specs.Layout.{columns};
-ghost use Rattle.card.specs.Card.{spacesIn, digitsOf, fieldAt, amountOf, isRight, lineNumbers};
 ghost use Rattle.card.specs.Card.{readLines, fieldsOn, announcedOf, lineBehind, firstWrong, cardOutcome};
 use fields::layout::AGES;
 use fields::layout::HEAD_FIELDS;
@@ -16,30 +14,9 @@ use fields::layout::MOST_SEGMENTS;
 use fields::layout::PER_AGE;
 use fields::layout::PER_SEGMENT;
 use fields::layout::SEGMENTS;
-use fields::layout::SLIP;
 use fields::refusal::Reading;
 use fields::refusal::Refusal;
-use ticks::Amount;
-
-// What stands in a field's 14 columns.
-pub enum Field {
-    Number(u64),
-    Blank,
-    Wrong,
-}
-
-const COLUMNS: usize = 14;
-
-const SPACE: u8 = b' ';
-
-const ZERO: u8 = b'0';
-
-const NINE: u8 = b'9';
-
-const LINE_FEED: u8 = b'\n';
-
-// What a blank slip reads, in ticks.
-const BLANK_SLIP: u64 = 256;
+use line::COLUMNS;
 
 // The bytes of lines 1 to 4. The first line of a segment, and its first field.
 const HEAD_BYTES: usize = 340;
@@ -47,107 +24,6 @@ const HEAD_BYTES: usize = 340;
 const SEGMENT_LINE: usize = 5;
 
 const SEGMENT_FIELD: usize = 25;
-
-fn wide(byte: u8) -> u64
-    ensures { λ r. ⌜ r ≡ byte ⌝ }
-{
-    byte as u64
-}
-
-// How many spaces a field begins with.
-fn leading_spaces(part: &[u8]) -> usize
-    requires { ⌜ columns ≤ length (now part) ⌝ }
-    ensures { λ r. ⌜ r ≡ spacesIn (take columns (now (part .entry))) ⌝ }
-{
-    let mut column = 0usize;
-    while column < COLUMNS {
-        if part[column] != SPACE {
-            return column;
-        }
-        column += 1;
-    }
-    column
-}
-
-// The number whose digits stand from column `first` of a field on.
-fn digits(part: &[u8], first: usize) -> Field
-    requires { ⌜ columns ≤ length (now part) ⌝ }
-    ensures { λ r. ⌜ r ≡ digitsOf 0 (drop first (take columns (now (part .entry)))) ⌝ }
-{
-    let mut number = 0u64;
-    let mut column = first;
-    while column < COLUMNS {
-        let byte = part[column];
-        if byte < ZERO {
-            return Field::Wrong;
-        }
-        if NINE < byte {
-            return Field::Wrong;
-        }
-        number = number * 10 + wide(byte - ZERO);
-        column += 1;
-    }
-    Field::Number(number)
-}
-
-// The field whose first column is the front of `part`.
-pub fn read_field(part: &[u8]) -> Field
-    ensures { λ r. ⌜ r ≡ fieldAt (now (part .entry)) ⌝ }
-{
-    if part.len() < COLUMNS {
-        return Field::Wrong;
-    }
-    let first = leading_spaces(part);
-    if first == COLUMNS {
-        return Field::Blank;
-    }
-    digits(part, first)
-}
-
-// What field number `field` reads.
-fn amount_of(field: usize, found: Field) -> Amount
-    ensures { λ r. ⌜ r ≡ amountOf field found ⌝ }
-{
-    match found {
-        Field::Number(number) => Amount::Of(number),
-        Field::Blank => {
-            if field == SLIP {
-                Amount::Of(BLANK_SLIP)
-            } else {
-                Amount::Refused
-            }
-        }
-        Field::Wrong => Amount::Refused,
-    }
-}
-
-// The line at the front of `part`: `count` fields, the first of them numbered `field`. Whether it is right; the numbers before
-// its first wrong field are written at the front of `fields`.
-fn read_line(part: &[u8], count: usize, field: usize, fields: &mut [u64]) -> bool
-    requires { ⌜ count ≤ length (now fields) ⌝ }
-    requires { ⌜ field + count < 2 ^ 64 ⌝ }
-    ensures { λ r. ⌜ r ≡ isRight count field (now (part .entry)) ⌝ }
-    ensures { λ r. ⌜ now (fields .exit) ≡ over (lineNumbers count field (now (part .entry))) (now (fields .entry)) ⌝ }
-{
-    let end = COLUMNS * count;
-    if part.len() <= end {
-        return false;
-    }
-    if part[end] != LINE_FEED {
-        return false;
-    }
-    let mut done = 0usize;
-    let mut at = 0usize;
-    while done < count {
-        let Amount::Of(number) = amount_of(field + done, read_field(&part[at..])) else {
-            return false;
-        };
-        fields[done] = number;
-        done += 1;
-        at += COLUMNS;
-    }
-    true
-}
 
 // Lines of `counts` fields each, from the front of `part` on; the first is line `line` and begins with field `field`. The first
 // wrong line, or 0; the numbers before the first wrong field are written at the front of `fields`.
@@ -163,7 +39,7 @@ fn read_lines(part: &[u8], counts: &[usize], line: usize, field: usize, fields: 
     let mut read = 0usize;
     while done < counts.len() {
         let count = counts[done];
-        if !read_line(&part[at..], count, field + read, &mut fields[read..]) {
+        if !line::read_line(&part[at..], count, field + read, &mut fields[read..]) {
             return line + done;
         }
         at += COLUMNS * count + 1;

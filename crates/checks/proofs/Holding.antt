@@ -1,10 +1,11 @@
 -- What a row says of which no check fails: each check holds; and what a check that holds says. Assumes nothing.
 use mathlib.Core.Path.{_≡_, refl}
-use mathlib.Core.Bool.{Bool, true, false, not, _&&_, _||_, cond}
+use mathlib.Core.Bool.{Bool, true, false, not, _||_, cond, and-eq-true-iff}
 use mathlib.Core.List.{List, [], _∷_, _++_}
 use Prim.Native.Nat.{ℕ, _≤_, _<_}
 use native.Mathlib.Omega.{arith}
 use borrow.Author.Tests.{leb-true}
+use lib.Dec.{leb}
 use Rattle.checks.specs.Rows.{Check, firstFailing, within}
 use Rattle.checks.proofs.Rows.{Placed, none, more}
 
@@ -33,11 +34,6 @@ part-holds other (more {check} {checks} h p) e =
     let later = part-holds other p (first .1) in
     ((first .0, later .0), later .1)
 
-pub both-true : (a b : Bool) → (a && b) ≡ true → (a ≡ true) × (b ≡ true)
-both-true true b e = (refl, e)
-both-true false true e = absurd (let z : _≡_ {A = ℕ} 0 1 = cc in omega arith)
-both-true false false e = absurd (let z : _≡_ {A = ℕ} 0 1 = cc in omega arith)
-
 pub other-true : (a b : Bool) → (a || b) ≡ true → a ≡ false → b ≡ true
 other-true true b e f = absurd (let z : _≡_ {A = ℕ} 0 1 = cc in omega arith)
 other-true false b e f = e
@@ -47,4 +43,4 @@ asked-true true b e f = e
 asked-true false b e f = absurd (let z : _≡_ {A = ℕ} 0 1 = cc in omega arith)
 
 pub in-range : (low high x : ℕ) → within low high x ≡ true → (low ≤ x) × (x ≤ high)
-in-range low high x e = let b = both-true _ _ e in (leb-true low x (b .0), leb-true x high (b .1))
+in-range low high x e = let b = and-eq-true-iff (leb low x) (leb x high) .0 e in (leb-true low x (b .0), leb-true x high (b .1))

@@ -8,15 +8,15 @@ use Rattle.coefficient.specs.declared.codes.Cure.{Cure}
 use Rattle.coefficient.specs.declared.codes.Cure.the-variants.{Moist, Accelerated}
 use Rattle.coefficient.specs.declared.codes.Concrete.{Concrete}
 use Rattle.coefficient.specs.declared.codes.Concrete.the-variants.{Normal, Lightweight}
-use Rattle.coefficient.specs.declared.tables.Table.the-variants.{Scf, Ssf, Mcf}
+use Rattle.tables.specs.declared.Table.the-variants.{Scf, Ssf, Mcf}
 use Rattle.coefficient.specs.declared.clocks.MemberHours.{MemberHours}
 use Rattle.coefficient.specs.declared.clocks.HoursSinceTransfer.{HoursSinceTransfer}
 use Rattle.coefficient.specs.declared.clocks.HoursSinceCuring.{HoursSinceCuring}
 use Rattle.coefficient.specs.Clocks.{sinceTransfer, sinceCuring, sinceTensioning}
-use Rattle.coefficient.specs.Lines.{Exact}
-use Rattle.coefficient.specs.Tables.{scfRows, ssfRows, mcfRows, creepShareRows, shrinkageShareRows, unitOf, T}
+use Rattle.tables.specs.Lines.{Exact}
+use Rattle.tables.specs.Tables.{scfRows, ssfRows, mcfRows, creepShareRows, shrinkageShareRows, unitOf, T}
 use Rattle.coefficient.specs.Coefficients.{scf, ssf, mcf, creepShare, shrinkageShare, ucr, ucrBase, ush}
-use Rattle.coefficient.proofs.Rows.{exact, within, never-falls, past-last}
+use Rattle.tables.proofs.Rows.{exact, within, never-falls, past-last}
 
 -- SCF is a whole number of 102,400ths at every volume/surface: nothing is rounded.
 pub scf-exact : (volumeToSurface : ℕ) → Exact (unitOf Scf) scfRows volumeToSurface

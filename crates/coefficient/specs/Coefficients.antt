@@ -4,17 +4,10 @@ use Rattle.coefficient.specs.declared.codes.Cure.{Cure}
 use Rattle.coefficient.specs.declared.codes.Cure.the-variants.{Moist, Accelerated}
 use Rattle.coefficient.specs.declared.codes.Concrete.{Concrete}
 use Rattle.coefficient.specs.declared.codes.Concrete.the-variants.{Normal, Lightweight}
-use Rattle.coefficient.specs.declared.tables.Table.{Table}
-use Rattle.coefficient.specs.declared.tables.Table.the-variants.{Scf, Ssf, Mcf, CreepShare, ShrinkageShare}
+use Rattle.tables.specs.declared.Table.the-variants.{Scf, Ssf, Mcf, CreepShare, ShrinkageShare}
 use Rattle.coefficient.specs.declared.clocks.HoursSinceTransfer.{HoursSinceTransfer}
 use Rattle.coefficient.specs.declared.clocks.HoursSinceCuring.{HoursSinceCuring}
-use Rattle.coefficient.specs.Lines.{reading}
-use Rattle.coefficient.specs.Tables.{rowsOf, unitOf}
-
--- a table at x, its last row, if it has one that a clock decides, at `life`
-unfoldable pub tableReading : Table → ℕ → ℕ → ℕ
-unfolding reading rowsOf
-tableReading table life x = reading (unitOf table) (rowsOf table life) x
+use Rattle.tables.specs.Tables.{unitOf, tableReading}
 
 -- SCF and SSF by volume/surface in ticks
 unfoldable pub scf : ℕ → ℕ

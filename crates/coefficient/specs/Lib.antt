@@ -1,4 +1,2 @@
 pub mod Clocks
-pub mod Lines
-pub mod Tables
 pub mod Coefficients

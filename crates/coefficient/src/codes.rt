@@ -14,3 +14,8 @@ pub enum Concrete {
     Normal,
     Lightweight,
 }
+
+pub enum Steel {
+    StressRelieved,
+    LowRelaxation,
+}

@@ -6,7 +6,6 @@ ghost use Rattle.coefficient.specs.Coefficients.{scf, ssf, mcf, creepSha
 
 pub mod clocks;
 pub mod codes;
-pub mod tables;
 
 use clocks::HoursSinceCuring;
 use clocks::HoursSinceTensioning;

@@ -1,7 +1,7 @@
 -- What an accepted member's fields keep to. `accepted` gives it whole, from `checkedOf` alone: each row of checks gives no place,
 -- so each of its checks holds, and each check says its bounds. Assumes nothing.
 use mathlib.Core.Path.{_≡_, refl}
-use mathlib.Core.Bool.{Bool, true, false, not, _&&_, _||_, cond}
+use mathlib.Core.Bool.{Bool, true, false, not, _&&_, _||_, cond, and-eq-true-iff}
 use mathlib.Core.List.{List, [], _∷_, _++_}
 use Prim.Native.Nat.{ℕ, _+_, _*_, _≤_, _<_}
 use native.Mathlib.Omega.{arith}
@@ -28,7 +28,7 @@ use Rattle.member.specs.Facts.{rises, MomentsWithin, no-moment, adds, Fa
 use Rattle.checks.proofs.Rows.{none, more}
 use Rattle.checks.proofs.RowPlaces.{head-codes-placed, segment-codes-placed, line-1-placed, line-2-placed, line-3-placed}
 use Rattle.checks.proofs.RowPlaces.{line-4-placed, segment-ranges-placed, moment-ranges-placed, age-hours-placed}
-use Rattle.checks.proofs.Holding.{Holds, all-hold, part-holds, both-true, other-true, asked-true, in-range}
+use Rattle.checks.proofs.Holding.{Holds, all-hold, part-holds, other-true, asked-true, in-range}
 
 -- ---- segments and ages, along their lists
 
@@ -107,7 +107,7 @@ ages-rise : (place before : ℕ) (ages : List Age) → Holds (hoursOfAges place 
 unfolding hoursOfAges
 ages-rise place before [] h = no-age
 ages-rise place before (age ∷ ages) h =
-    let both = both-true (ltb before (age .hour)) (leb (age .hour) serviceLife) (h .0) in
+    let both = and-eq-true-iff (ltb before (age .hour)) (leb (age .hour) serviceLife) .0 (h .0) in
     rises (ltb-true before (age .hour) (both .0)) (leb-true (age .hour) serviceLife (both .1))
     (ages-rise (place + 2) (age .hour) ages (h .1))
 
@@ -174,9 +174,9 @@ module _ (segments ages : ℕ) (fields : List ℕ) where
       let one = r .line-1 in
       let ultimate = in-range 100000 300000 (ultimateStrength fields) (one .0) in
       let stress = jackingStress fields in
-      let jacking = both-true (leb 1000 stress) (leb (100 * stress) (80 * ultimateStrength fields)) (one .1 .0) in
+      let jacking = and-eq-true-iff (leb 1000 stress) (leb (100 * stress) (80 * ultimateStrength fields)) .0 (one .1 .0) in
       let lost = eqb (deflectorLoss fields) 0 in
-      let deflector = both-true (leb (deflectorLoss fields) 20000) (isPretensioned fields || lost) (one .1 .1 .0) in
+      let deflector = and-eq-true-iff (leb (deflectorLoss fields) 20000) (isPretensioned fields || lost) .0 (one .1 .1 .0) in
       let length = in-range 1024 2097152 (tendonLength fields) (one .1 .1 .1 .1 .0) in
       let two = r .line-2 in
       let es = in-range 20000000 32000000 (Es fields) (two .0) in
@@ -191,8 +191,8 @@ module _ (segments ages : ℕ) (fields : List ℕ) where
       let short = leb (endOfCuring fields) 168 in
       let most = leb (endOfCuring fields) (transfer fields) in
       let kinds = not (isPretensioned fields) || until in
-      let curing = both-true (most && kinds) (not (isMoist fields) || short) (h .0) in
-      let before = both-true most kinds (curing .0) in
+      let curing = and-eq-true-iff (most && kinds) (not (isMoist fields) || short) .0 (h .0) in
+      let before = and-eq-true-iff most kinds .0 (curing .0) in
       let transferred = in-range (cond (isMoist fields) 72 1) 960 (transfer fields) (h .1 .0) in
       record {
         kind-least = kind .0;

@@ -3,7 +3,7 @@ use Prim.Native.Nat.{ℕ, _+_, _*_, _/_}
 use mathlib.Core.Bool.{cond}
 use mathlib.Core.List.{List, [], _∷_}
 use lib.Dec.{eqb}
-use Rattle.coefficient.specs.Tables.{T}
+use Rattle.tables.specs.Tables.{T}
 use Rattle.checks.specs.Quantities.{Segment}
 
 -- a parabola's code, and a bend's

@@ -11,8 +11,8 @@ use Rattle.coefficient.specs.declared.codes.Cure.{Cure}
 use Rattle.coefficient.specs.declared.codes.Cure.the-variants.{Moist, Accelerated}
 use Rattle.coefficient.specs.declared.codes.Concrete.{Concrete}
 use Rattle.coefficient.specs.declared.codes.Concrete.the-variants.{Normal, Lightweight}
-use Rattle.member.specs.declared.Steel.{Steel}
-use Rattle.member.specs.declared.Steel.the-variants.{StressRelieved, LowRelaxation}
+use Rattle.coefficient.specs.declared.codes.Steel.{Steel}
+use Rattle.coefficient.specs.declared.codes.Steel.the-variants.{StressRelieved, LowRelaxation}
 use Rattle.member.specs.declared.Member.{Member}
 use Rattle.member.specs.declared.Checked.{Checked}
 use Rattle.member.specs.declared.Checked.the-variants.{Accepted, Refused}

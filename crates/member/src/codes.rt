@@ -2,10 +2,10 @@
 ghost use mathlib.Core.Path.{_≡_};
 ghost use mathlib.Core.Bool.{cond};
 ghost use lib.Dec.{eqb};
-use crate::Steel;
 use coefficient::codes::Concrete;
 use coefficient::codes::Cure;
 use coefficient::codes::Kind;
+use coefficient::codes::Steel;
 use fields::places;
 
 pub fn kind_of(code: u64) -> Kind

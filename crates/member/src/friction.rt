@@ -6,11 +6,11 @@ ghost use Rattle.member.specs.Friction.{wobblePart, curvaturePart};
 ghost use Rattle.checks.specs.Parts.{segment};
 ghost use Rattle.member.specs.Facts.{SegmentFits, PathFits, mostPart};
 ghost use Rattle.member.specs.Member.{frictionOf};
-use coefficient::tables::T;
 use fields::layout::HEAD_FIELDS;
 use fields::layout::MOST_FIELDS;
 use fields::layout::PER_SEGMENT;
 use fields::places;
+use tables::T;
 use ticks::TICKS_PER_UNIT;
 
 const MILLION: u64 = 1_000_000;

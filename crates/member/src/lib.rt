@@ -11,14 +11,10 @@ pub mod friction;
 pub mod section;
 
 use coefficient::clocks::MemberHours;
+use coefficient::codes::Steel;
 use fields::layout::MOST_FIELDS;
 use fields::places;
 use fields::refusal::Refusal;
-
-pub enum Steel {
-    StressRelieved,
-    LowRelaxation,
-}
 
 // What the run uses of an accepted member, by document 01's names. Its segments and its ages stay in the fields.
 pub struct Member {

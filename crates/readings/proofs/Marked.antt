@@ -8,7 +8,8 @@ use Rattle.ticks.specs.Doubles.{ticksOf, magnitude, one}
 use Rattle.logarithm.specs.Logarithm.{logarithm}
 use Rattle.coefficient.specs.Coefficients.{scf, ssf, mcf, ucr, ush, creepShare, shrinkageShare}
 use Rattle.fields.specs.Amounts.{numbersIn}
-use Rattle.card.specs.Card.{cardOutcome, digitsOf, spacesIn}
+use Rattle.line.specs.Line.{digitsOf, spacesIn}
+use Rattle.card.specs.Card.{cardOutcome}
 use Rattle.checks.specs.Quantities.{segmentsFrom, agesFrom}
 use Rattle.member.specs.Friction.{pathFriction}
 use Rattle.checks.specs.Rows.{firstFailing, segmentCodes, rangesOfSegments, rangesOfMoments, hoursOfAges}

@@ -13,7 +13,8 @@ use Rattle.coefficient.specs.declared.clocks.HoursSinceTransfer.{HoursSinceTran
 use Rattle.coefficient.specs.Coefficients.{scf, mcf, creepShare}
 use Rattle.fields.specs.Amounts.{accepted}
 use Rattle.fields.specs.Layout.{columns}
-use Rattle.card.specs.Card.{space, lineFeed, cardOutcome}
+use Rattle.line.specs.Line.{space, lineFeed}
+use Rattle.card.specs.Card.{cardOutcome}
 use Rattle.fields.specs.Refusals.{number, place}
 use Rattle.checks.specs.Quantities.{Segment, Age, agesOf}
 use Rattle.member.specs.Friction.{pathFriction, parabola}

@@ -3,9 +3,9 @@
 use Prim.Native.Nat.{ℕ, _*_, _/_, _^_, _≤_, _<_}
 use native.Mathlib.Nat.{div-le-self, div-le-of-le-mul, le-trans}
 use native.Mathlib.Omega.{arith}
-use Rattle.coefficient.specs.Tables.{T}
-use Rattle.member.specs.declared.Steel.{Steel}
-use Rattle.member.specs.declared.Steel.the-variants.{StressRelieved, LowRelaxation}
+use Rattle.tables.specs.Tables.{T}
+use Rattle.coefficient.specs.declared.codes.Steel.{Steel}
+use Rattle.coefficient.specs.declared.codes.Steel.the-variants.{StressRelieved, LowRelaxation}
 use Rattle.steps.specs.Steps.{yield, relaxationDivisor, relaxationFactor, relaxationLoss}
 use Rattle.steps.specs.Steps.{concreteStress, creepLoss, shrinkageLoss}
 use Rattle.steps.proofs.Products.{product}

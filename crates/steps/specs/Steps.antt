@@ -1,8 +1,8 @@
 -- What each loss is: document 01, "Steps". Stresses are in ticks, "Every division rounds down". Assumes nothing.
 use Prim.Native.Nat.{ℕ, _+_, _-_, _*_, _/_, _^_, max}
-use Rattle.coefficient.specs.Tables.{T}
-use Rattle.member.specs.declared.Steel.{Steel}
-use Rattle.member.specs.declared.Steel.the-variants.{StressRelieved, LowRelaxation}
+use Rattle.tables.specs.Tables.{T}
+use Rattle.coefficient.specs.declared.codes.Steel.{Steel}
+use Rattle.coefficient.specs.declared.codes.Steel.the-variants.{StressRelieved, LowRelaxation}
 use Rattle.ticks.specs.Doubles.{ticksPerUnit}
 
 -- "1. Friction .. Loss f·X/T"

@@ -4,8 +4,8 @@ ghost use mathlib.Core.Path.{_≡_};
 ghost use Prim.Native.Nat.{_-_, _^_, _≤_, _<_};
 ghost use Rattle.steps.specs.Steps.{frictionLoss, slipLoss, deflectorTicks, yield, relaxationDivisor, relaxationFactor};
 ghost use Rattle.steps.specs.Steps.{relaxationLoss, momentStress, concreteStress, shorteningLoss, creepLoss, shrinkageLoss};
-use coefficient::tables::T;
-use member::Steel;
+use coefficient::codes::Steel;
+use tables::T;
 use ticks::TICKS_PER_UNIT;
 
 // 2^32: what κ is in parts of.

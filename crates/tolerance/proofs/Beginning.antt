@@ -17,7 +17,7 @@ use Rattle.logarithm.specs.Logarithm.{logarithm, serviceLife}
 use Rattle.coefficient.specs.declared.codes.Kind.{Kind}
 use Rattle.coefficient.specs.declared.codes.Kind.the-variants.{Pretensioned, PostTensioned}
 use Rattle.coefficient.specs.Clocks.{sinceTensioning}
-use Rattle.coefficient.specs.Tables.{T}
+use Rattle.tables.specs.Tables.{T}
 use Rattle.coefficient.proofs.Laws.{since-tensioning-least, since-tensioning-most}
 use Rattle.ticks.specs.Doubles.{ticksPerUnit}
 use Rattle.fields.specs.Layout.{headFields, perSegment}

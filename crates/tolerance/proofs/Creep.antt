@@ -13,7 +13,7 @@ use Rattle.fraction.proofs.Certificate.{num, _⊞_, _⊠_, _⊑_, _≐_, _⊛_,
 use Rattle.fraction.proofs.Floors.{whole-order, whole-not-negative}
 use Rattle.fraction.proofs.Distances.{within-sym, within-trans, within-weaken, within-resp-≈, within-scaled, within-product}
 use Rattle.fraction.proofs.Slopes.{SlowTo, hinge, slow-resp-≈, scaled-hinge-slow-to}
-use Rattle.coefficient.specs.Tables.{T}
+use Rattle.tables.specs.Tables.{T}
 use Rattle.checks.specs.Rows.{mostKappa, mostCreepOfKappa}
 use Rattle.steps.specs.Steps.{creepLoss as ticksCreepLoss, concreteStress as ticksConcreteStress}
 use Rattle.tolerance.specs.Quotients.{_÷_}

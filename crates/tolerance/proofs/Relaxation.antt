@@ -16,9 +16,9 @@ use Rattle.fraction.proofs.Floors.{whole-order, whole-not-negative, over-times}
 use Rattle.fraction.proofs.Distances.{within-resp-≈, within-trans, within-weaken, within-difference, within-larger}
 use Rattle.fraction.proofs.Distances.{within-scaled, within-product}
 use Rattle.fraction.proofs.Certificate.{_⊠_, _≐_, identity}
-use Rattle.coefficient.specs.Tables.{T}
-use Rattle.member.specs.declared.Steel.{Steel}
-use Rattle.member.specs.declared.Steel.the-variants.{StressRelieved, LowRelaxation}
+use Rattle.tables.specs.Tables.{T}
+use Rattle.coefficient.specs.declared.codes.Steel.{Steel}
+use Rattle.coefficient.specs.declared.codes.Steel.the-variants.{StressRelieved, LowRelaxation}
 use Rattle.ticks.specs.Doubles.{ticksPerUnit}
 use Rattle.steps.specs.Steps.{relaxationFactor as ticksFactor, relaxationLoss as ticksRelaxationLoss}
 use Rattle.tolerance.specs.Quotients.{_÷_, inverse}

@@ -12,9 +12,9 @@ use Rattle.fraction.proofs.Laws.{one-⊗, ⊗-not-negative, larger-cong}
 use Rattle.fraction.proofs.Floors.{whole-not-negative}
 use Rattle.fraction.proofs.Certificate.{num, _⊞_, _⊠_, _⊑_, _≐_, _⊛_, _⊢_, follows, identity}
 use Rattle.fraction.proofs.Slopes.{SlowTo, hinge, slow-resp-≈, relaxation-slow-to}
-use Rattle.coefficient.specs.Tables.{T}
-use Rattle.member.specs.declared.Steel.{Steel}
-use Rattle.member.specs.declared.Steel.the-variants.{StressRelieved, LowRelaxation}
+use Rattle.tables.specs.Tables.{T}
+use Rattle.coefficient.specs.declared.codes.Steel.{Steel}
+use Rattle.coefficient.specs.declared.codes.Steel.the-variants.{StressRelieved, LowRelaxation}
 use Rattle.ticks.specs.Doubles.{ticksPerUnit}
 use Rattle.tolerance.specs.Quotients.{_÷_, inverse}
 use Rattle.tolerance.specs.Steps.{yield, relaxationLoss}

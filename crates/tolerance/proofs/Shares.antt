@@ -19,12 +19,13 @@ use Rattle.fraction.proofs.Floors.{whole-order, order-of-whole, whole-not-negat
 use Rattle.fraction.proofs.Certificate.{num, _⊞_, _⊟_, _⊑_, _⊢_, follows}
 use Rattle.fraction.proofs.Distances.{within-trans, within-weaken, within-resp-≈, within-scaled, within-product}
 use Rattle.fraction.proofs.Distances.{within-larger-constant}
-use Rattle.coefficient.specs.declared.tables.Row.{Row}
+use Rattle.tables.specs.declared.Row.{Row}
 use Rattle.coefficient.specs.declared.clocks.HoursSinceTransfer.{HoursSinceTransfer}
 use Rattle.coefficient.specs.declared.clocks.HoursSinceCuring.{HoursSinceCuring}
-use Rattle.coefficient.specs.Lines.{hundred, at, hundredths, weighed, reading, along as ticksAlong}
-use Rattle.coefficient.specs.Tables.{T, creepShareRows, shrinkageShareRows, rowsOf}
-use Rattle.coefficient.specs.Coefficients.{tableReading, creepShare, shrinkageShare}
+use Rattle.tables.specs.Lines.{hundred, at, hundredths, weighed, reading, along as ticksAlong}
+use Rattle.tables.specs.Tables.{T, creepShareRows, shrinkageShareRows, rowsOf}
+use Rattle.tables.specs.Tables.{tableReading}
+use Rattle.coefficient.specs.Coefficients.{creepShare, shrinkageShare}
 use Rattle.steps.specs.Steps.{shrinkageLoss as ticksShrinkageLoss}
 use Rattle.tolerance.specs.Quotients.{_÷_}
 use Rattle.tolerance.specs.Coefficients.{along, shareOf}

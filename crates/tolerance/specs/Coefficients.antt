@@ -5,9 +5,9 @@ use mathlib.Core.Bool.{cond}
 use mathlib.Core.List.{List, [], _∷_}
 use lib.Dec.{ltb, eqb}
 use Rattle.fraction.specs.Fraction.{Fraction, whole, _⊕_}
-use Rattle.coefficient.specs.declared.tables.Row.{Row}
-use Rattle.coefficient.specs.Lines.{hundred, at, hundredths, weighed}
-use Rattle.coefficient.specs.Tables.{T}
+use Rattle.tables.specs.declared.Row.{Row}
+use Rattle.tables.specs.Lines.{hundred, at, hundredths, weighed}
+use Rattle.tables.specs.Tables.{T}
 use Rattle.coefficient.specs.Coefficients.{scf, ssf, mcf, ucr, ush}
 use Rattle.checks.specs.Quantities.{Segment, area, inertia, eccentricity, steelArea, Ec, volumeToSurface, transfer}
 use Rattle.member.specs.Friction.{parabola, bend, million}

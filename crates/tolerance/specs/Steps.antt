@@ -1,9 +1,9 @@
 -- What each loss is, without rounding, beside `Steps` of the crate `steps`. Stresses are in ticks. Assumes nothing.
 use Prim.Native.Nat.{ℕ, _*_, _^_}
 use Rattle.fraction.specs.Fraction.{Fraction, whole, _⊕_, _⊖_, _⊗_, larger}
-use Rattle.coefficient.specs.Tables.{T}
-use Rattle.member.specs.declared.Steel.{Steel}
-use Rattle.member.specs.declared.Steel.the-variants.{StressRelieved, LowRelaxation}
+use Rattle.tables.specs.Tables.{T}
+use Rattle.coefficient.specs.declared.codes.Steel.{Steel}
+use Rattle.coefficient.specs.declared.codes.Steel.the-variants.{StressRelieved, LowRelaxation}
 use Rattle.ticks.specs.Doubles.{ticksPerUnit}
 use Rattle.steps.specs.Steps.{relaxationDivisor}
 use Rattle.tolerance.specs.Quotients.{_÷_, inverse}

@@ -10,7 +10,7 @@ use Rattle.coefficient.specs.declared.codes.Kind.{Kind}
 use Rattle.coefficient.specs.declared.codes.Kind.the-variants.{Pretensioned, PostTensioned}
 use Rattle.coefficient.specs.declared.clocks.MemberHours.{MemberHours}
 use Rattle.coefficient.specs.Clocks.{sinceTransfer, sinceCuring, sinceTensioning}
-use Rattle.coefficient.specs.Tables.{creepShareRows, shrinkageShareRows}
+use Rattle.tables.specs.Tables.{creepShareRows, shrinkageShareRows}
 use Rattle.checks.specs.Quantities.{Segment, Age, segmentsOf, agesOf, jackingStress, deflectorLoss, slip, tendonLength, ultimateStrength, Es, Eci, eccentricity, inertia, ownWeightMoment, endOfCuring, transfer, wobble, curvature}
 use Rattle.checks.specs.Rows.{perRow}
 use Rattle.member.specs.Member.{kindOf, steelOf}

@@ -1,0 +1,3 @@
+pub mod Rows
+mod Arms
+mod Weights
