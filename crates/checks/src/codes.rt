@@ -10,13 +10,20 @@ use fields::layout::MOST_FIELDS;
 use fields::layout::PER_SEGMENT;
 use fields::places;
 
+// Codes that are listed.
+const FIRST_CODE: u64 = 1;
+
+const LAST_CODE: u64 = 2;
+
+const LAST_SEGMENT_CODE: u64 = 3;
+
 fn head_codes(fields: &[u64; MOST_FIELDS]) -> u64
     ensures { λ r. ⌜ r ≡ firstFailing (headCodes (now (fields .entry))) ⌝ }
 {
-    let failing = row::first(0, 1, row::in_range(1, 2, fields[places::KIND]));
-    let failing = row::first(failing, 2, row::in_range(1, 2, fields[places::STEEL]));
-    let failing = row::first(failing, 8, row::in_range(1, 2, fields[places::CURE]));
-    row::first(failing, 9, row::in_range(1, 2, fields[places::CONCRETE]))
+    let failing = row::ranged(0, 1, FIRST_CODE, LAST_CODE, fields[places::KIND]);
+    let failing = row::ranged(failing, 2, FIRST_CODE, LAST_CODE, fields[places::STEEL]);
+    let failing = row::ranged(failing, 8, FIRST_CODE, LAST_CODE, fields[places::CURE]);
+    row::ranged(failing, 9, FIRST_CODE, LAST_CODE, fields[places::CONCRETE])
 }
 
 fn segment_codes(fields: &[u64; MOST_FIELDS], segments: usize) -> u64
@@ -26,7 +33,13 @@ fn segment_codes(fields: &[u64; MOST_FIELDS], segments: usize) -> u64
     let mut segment = 0usize;
     while segment < segments {
         let at = HEAD_FIELDS + PER_SEGMENT * segment;
-        let failing = row::first(0, (at + 1) as u64, row::in_range(1, 3, fields[at]));
+        let failing = row::ranged(
+            0,
+            (at + 1) as u64,
+            FIRST_CODE,
+            LAST_SEGMENT_CODE,
+            fields[at],
+        );
         if failing != 0 {
             return failing;
         }

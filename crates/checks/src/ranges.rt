@@ -20,14 +20,12 @@ fn line_1(fields: &[u64; MOST_FIELDS]) -> u64
     ensures { λ r. ⌜ r ≡ firstFailing (rangesOfLine1 (now (fields .entry))) ⌝ }
 {
     let ultimate_strength = fields[places::ULTIMATE_STRENGTH];
-    let failing = row::first(
+    let failing = row::ranged(
         0,
         3,
-        row::in_range(
-            limits::LEAST_ULTIMATE_STRENGTH,
-            limits::MOST_ULTIMATE_STRENGTH,
-            ultimate_strength,
-        ),
+        limits::LEAST_ULTIMATE_STRENGTH,
+        limits::MOST_ULTIMATE_STRENGTH,
+        ultimate_strength,
     );
     let jacking_stress = fields[places::JACKING_STRESS];
     let most = limits::MOST_JACKING_HUNDREDTHS * ultimate_strength;
@@ -38,18 +36,17 @@ fn line_1(fields: &[u64; MOST_FIELDS]) -> u64
     let failing = row::first(failing, 4, jacking);
     let deflector_loss = fields[places::DEFLECTOR_LOSS];
     let pretensioned = fields[places::KIND] == places::PRETENSIONED;
-    let deflector = row::either(pretensioned, deflector_loss == 0);
-    let failing = row::first(
-        failing,
-        5,
-        row::both(deflector_loss <= limits::MOST_DEFLECTOR_LOSS, deflector),
-    );
+    let allowed = row::either(pretensioned, deflector_loss == 0);
+    let deflector = row::both(deflector_loss <= limits::MOST_DEFLECTOR_LOSS, allowed);
+    let failing = row::first(failing, 5, deflector);
     let failing = row::first(failing, 6, fields[places::SLIP] <= limits::MOST_SLIP);
     let length = fields[places::TENDON_LENGTH];
-    row::first(
+    row::ranged(
         failing,
         7,
-        row::in_range(limits::LEAST_TENDON_LENGTH, limits::MOST_LENGTH, length),
+        limits::LEAST_TENDON_LENGTH,
+        limits::MOST_LENGTH,
+        length,
     )
 }
 
@@ -57,28 +54,18 @@ fn line_2(fields: &[u64; MOST_FIELDS]) -> u64
     ensures { λ r. ⌜ r ≡ firstFailing (rangesOfLine2 (now (fields .entry))) ⌝ }
 {
     let es = fields[places::ES];
-    let failing = row::first(0, 10, row::in_range(limits::LEAST_ES, limits::MOST_ES, es));
+    let failing = row::ranged(0, 10, limits::LEAST_ES, limits::MOST_ES, es);
     let eci = fields[places::ECI];
-    let failing = row::first(
-        failing,
-        11,
-        row::in_range(limits::LEAST_EC, limits::MOST_EC, eci),
-    );
+    let failing = row::ranged(failing, 11, limits::LEAST_EC, limits::MOST_EC, eci);
     let ec = fields[places::EC];
-    let failing = row::first(
-        failing,
-        12,
-        row::in_range(limits::LEAST_EC, limits::MOST_EC, ec),
-    );
+    let failing = row::ranged(failing, 12, limits::LEAST_EC, limits::MOST_EC, ec);
     let volume_to_surface = fields[places::VOLUME_TO_SURFACE];
-    row::first(
+    row::ranged(
         failing,
         13,
-        row::in_range(
-            limits::LEAST_VOLUME_TO_SURFACE,
-            limits::MOST_VOLUME_TO_SURFACE,
-            volume_to_surface,
-        ),
+        limits::LEAST_VOLUME_TO_SURFACE,
+        limits::MOST_VOLUME_TO_SURFACE,
+        volume_to_surface,
     )
 }
 
@@ -86,34 +73,30 @@ fn line_3(fields: &[u64; MOST_FIELDS]) -> u64
     ensures { λ r. ⌜ r ≡ firstFailing (rangesOfLine3 (now (fields .entry))) ⌝ }
 {
     let area = fields[places::AREA];
-    let failing = row::first(
-        0,
-        14,
-        row::in_range(limits::LEAST_AREA, limits::MOST_AREA, area),
-    );
+    let failing = row::ranged(0, 14, limits::LEAST_AREA, limits::MOST_AREA, area);
     let inertia = fields[places::INERTIA];
-    let failing = row::first(
+    let failing = row::ranged(
         failing,
         15,
-        row::in_range(limits::LEAST_INERTIA, limits::MOST_INERTIA, inertia),
+        limits::LEAST_INERTIA,
+        limits::MOST_INERTIA,
+        inertia,
     );
-    let failing = row::first(
-        failing,
-        16,
-        fields[places::ECCENTRICITY] <= limits::MOST_ECCENTRICITY,
-    );
+    let eccentricity = fields[places::ECCENTRICITY];
+    let failing = row::first(failing, 16, eccentricity <= limits::MOST_ECCENTRICITY);
     let steel_area = fields[places::STEEL_AREA];
-    let failing = row::first(
+    let failing = row::ranged(
         failing,
         17,
-        row::in_range(
-            limits::LEAST_STEEL_AREA,
-            limits::MOST_STEEL_AREA,
-            steel_area,
-        ),
+        limits::LEAST_STEEL_AREA,
+        limits::MOST_STEEL_AREA,
+        steel_area,
     );
-    let own_weight = fields[places::OWN_WEIGHT_MOMENT];
-    row::first(failing, 18, own_weight <= limits::MOST_MOMENT)
+    row::first(
+        failing,
+        18,
+        fields[places::OWN_WEIGHT_MOMENT] <= limits::MOST_MOMENT,
+    )
 }
 
 fn line_4(fields: &[u64; MOST_FIELDS]) -> u64

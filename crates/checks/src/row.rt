@@ -43,3 +43,10 @@ pub fn in_range(low: u64, high: u64, x: u64) -> bool
 {
     both(low <= x, x <= high)
 }
+
+// The place given so far, or else this one, where x does not lie in low..high.
+pub fn ranged(before: u64, place: u64, low: u64, high: u64, x: u64) -> u64
+    ensures { λ r. ⌜ r ≡ orElse before (failing (at place (within low high x))) ⌝ }
+{
+    first(before, place, in_range(low, high, x))
+}

@@ -1,6 +1,6 @@
 -- At the loop's head the row's place is the one that the segments left give. A turn makes the first of their checks. Assumes
 -- nothing.
-use mathlib.Core.Path.{_≡_, sym, ap, _∙_}
+use mathlib.Core.Path.{_≡_, refl, sym, ap, _∙_}
 use mathlib.Core.List.{List, [], _∷_, _++_}
 use Prim.Native.Nat.{ℕ, _+_, _-_, _≤_, _<_}
 use native.Mathlib.Omega.{arith}
@@ -34,17 +34,17 @@ Inv-loop fields segments segment₀ segment =
 abbrev μ-loop : tie.MeasureT-loop
 μ-loop fields segments segment₀ segment = segments - segment
 
-turn : (c : tie.After-first Inv-loop μ-loop)
-    → let start = c .before .before .before .before .before in
-    Turn (rowOf (start .args .fields .now) (start .args .segments)) (c .first .result)
-    (left (start .args .fields .now) (start .args .segments) (c .before .before .before .before .loop .segment + 1))
+turn : (c : tie.After-ranged Inv-loop μ-loop)
+    → let start = c .before .before .before .before in
+    Turn (rowOf (start .args .fields .now) (start .args .segments)) (c .ranged .result)
+    (left (start .args .fields .now) (start .args .segments) (c .before .before .before .loop .segment + 1))
 turn c =
-    let turned = c .before .before .before in
+    let turned = c .before .before in
     let start = turned .before .before in
     let k = turned .before .loop .segment in
     record {
       made = _;
-      gives = next-at (segmentPlace k + 1) (omega arith) begins (c .before .in-range .ensures) (c .first .ensures);
+      gives = next-at (segmentPlace k + 1) (omega arith) begins refl (c .ranged .ensures);
       same =
           turned .before .loop .inv .1
           ∙ ap firstFailing (split (start .args .fields .now) (start .args .segments) k (turned .loop-test .taken));
@@ -59,20 +59,17 @@ mul-at c = omega arith
 add-at : tie.Need-add-at Inv-loop μ-loop
 add-at c = omega arith
 
-add-first : tie.Need-add-first Inv-loop μ-loop
-add-first c = omega arith
+add-ranged : tie.Need-add-ranged Inv-loop μ-loop
+add-ranged c = omega arith
 
-mul-in-range : tie.Need-mul-in-range Inv-loop μ-loop
-mul-in-range c = omega arith
+mul-ranged : tie.Need-mul-ranged Inv-loop μ-loop
+mul-ranged c = omega arith
 
-element-copy-out-in-range : tie.Need-element-copy-out-in-range Inv-loop μ-loop
-element-copy-out-in-range c = omega arith
+element-copy-out-ranged : tie.Need-element-copy-out-ranged Inv-loop μ-loop
+element-copy-out-ranged c = omega arith
 
-in-range-requires : tie.Need-in-range-requires Inv-loop μ-loop
-in-range-requires c κs = search needs
-
-first-requires : tie.Need-first-requires Inv-loop μ-loop
-first-requires c κs = search needs
+ranged-requires : tie.Need-ranged-requires Inv-loop μ-loop
+ranged-requires c κs = search needs
 
 returns : tie.Need-returns Inv-loop μ-loop
 returns c = stops (turn (c .before)) (c .if1 .taken)
@@ -103,11 +100,10 @@ segment-codes-spec =
     loop-holds
     mul-at
     add-at
-    add-first
-    mul-in-range
-    element-copy-out-in-range
-    in-range-requires
-    first-requires
+    add-ranged
+    mul-ranged
+    element-copy-out-ranged
+    ranged-requires
     returns
     add-segment
     loop-less

@@ -13,26 +13,23 @@ use Rattle.checks.proofs.ranges.line_1.Tie as tie
 element-copy-out-ultimate-strength : tie.Need-element-copy-out-ultimate-strength
 element-copy-out-ultimate-strength c = search needs
 
-in-range-requires : tie.Need-in-range-requires
-in-range-requires c κs = search needs
-
-first-requires : tie.Need-first-requires
-first-requires c κs = search needs
+ranged-requires : tie.Need-ranged-requires
+ranged-requires c κs = search needs
 
 element-copy-out-jacking-stress : tie.Need-element-copy-out-jacking-stress
 element-copy-out-jacking-stress c = search needs
 
 mul-most : tie.Need-mul-most
-mul-most c = let start = c .before .before .before .before in omega (arith, start .pre 2)
+mul-most c = let start = c .before .before .before in omega (arith, start .pre 2)
 
 mul-both : tie.Need-mul-both
-mul-both c = let start = c .before .before .before .before in omega (arith, start .pre 3)
+mul-both c = let start = c .before .before .before in omega (arith, start .pre 3)
 
 both-requires : tie.Need-both-requires
 both-requires c κs = search needs
 
-first-requires-2 : tie.Need-first-requires-2
-first-requires-2 c κs = search needs
+first-requires : tie.Need-first-requires
+first-requires c κs = search needs
 
 element-copy-out-deflector-loss : tie.Need-element-copy-out-deflector-loss
 element-copy-out-deflector-loss c = search needs
@@ -46,58 +43,53 @@ either-requires c κs = search needs
 both-requires-2 : tie.Need-both-requires-2
 both-requires-2 c κs = search needs
 
-first-requires-3 : tie.Need-first-requires-3
-first-requires-3 c κs = search needs
+first-requires-2 : tie.Need-first-requires-2
+first-requires-2 c κs = search needs
 
 element-copy-out-first : tie.Need-element-copy-out-first
 element-copy-out-first c = search needs
 
-first-requires-4 : tie.Need-first-requires-4
-first-requires-4 c κs = search needs
+first-requires-3 : tie.Need-first-requires-3
+first-requires-3 c κs = search needs
 
 element-copy-out-length : tie.Need-element-copy-out-length
 element-copy-out-length c = search needs
 
-in-range-requires-2 : tie.Need-in-range-requires-2
-in-range-requires-2 c κs = search needs
-
-first-requires-5 : tie.Need-first-requires-5
-first-requires-5 c κs = search needs
+ranged-requires-2 : tie.Need-ranged-requires-2
+ranged-requires-2 c κs = search needs
 
 returns : tie.Need-returns
 returns c =
-    let four = c .before .before .before in
+    let four = c .before .before in
     let three = four .before .before in
     let two = three .before .before .before .before .before in
     let one = two .before .before .before in
-    let ultimate = next 3 tt begins (one .before .in-range .ensures) (one .first .ensures) in
-    let jacking = next 4 tt ultimate (two .before .both .ensures) (two .first2 .ensures) in
-    let most = leb (deflectorLoss (one .before .before .before .args .fields .now)) 20000 in
+    let strength = next 3 tt begins refl (one .ranged .ensures) in
+    let jacking = next 4 tt strength (two .before .both .ensures) (two .first .ensures) in
+    let most = leb (deflectorLoss (one .before .before .args .fields .now)) 20000 in
     let allowed = ap (λ (kind : Bool). most && kind) (three .before .before .either .ensures) in
-    let deflector = next 5 tt jacking (three .before .both2 .ensures ∙ allowed) (three .first3 .ensures) in
-    let slip = next 6 tt deflector refl (four .first4 .ensures) in
-    next 7 tt slip (c .before .in-range2 .ensures) (c .first5 .ensures) .same
+    let deflector = next 5 tt jacking (three .before .both2 .ensures ∙ allowed) (three .first2 .ensures) in
+    let slip = next 6 tt deflector refl (four .first3 .ensures) in
+    next 7 tt slip refl (c .ranged2 .ensures) .same
 
 pub line-1-spec : {M : Type 1} → statement M
 line-1-spec =
     tie.close
     (tie.spec
     element-copy-out-ultimate-strength
-    in-range-requires
-    first-requires
+    ranged-requires
     element-copy-out-jacking-stress
     mul-most
     mul-both
     both-requires
-    first-requires-2
+    first-requires
     element-copy-out-deflector-loss
     element-copy-out-pretensioned
     either-requires
     both-requires-2
-    first-requires-3
+    first-requires-2
     element-copy-out-first
-    first-requires-4
+    first-requires-3
     element-copy-out-length
-    in-range-requires-2
-    first-requires-5
+    ranged-requires-2
     returns)
