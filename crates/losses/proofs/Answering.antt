@@ -25,7 +25,8 @@ use Rattle.losses.specs.declared.Answer.the-variants.{Accepted, Refused}
 use Rattle.stages.specs.BeforeAges.{begunOf}
 use Rattle.stages.specs.Ages.{Aged, agedFrom}
 use Rattle.losses.specs.RunAges.{lastOf, last, RanAges}
-use Rattle.losses.specs.Run.{Result, refused, startOf, memberResult, Ran}
+use Rattle.stages.specs.Run.{Result, refused, startOf, memberResult}
+use Rattle.losses.specs.Answers.{Ran}
 
 -- what the last stress says of the ages
 left-last : (stress : Stress) (number last : ℕ) → Of last ≡ lastOf stress number → stress ≡ Left last

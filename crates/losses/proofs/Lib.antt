@@ -1,4 +1,7 @@
-pub mod Accepting
-pub mod Answering
+pub mod Readers
+mod Accepting
+mod Answering
+mod Closeness
 mod Lists
+mod Padding
 mod Running

@@ -26,7 +26,7 @@ use Rattle.stages.specs.Bounds.{Bounded, AgesBounded}
 use Rattle.stages.specs.Ages.{Start, Aged, behind, onward, nextStart, rowOf, lossesIn, agedFrom}
 use Rattle.stages.specs.Intervals.{endAt, transferEnd, lossesBetween, passing, passed}
 use Rattle.losses.specs.RunAges.{rowBy, RanAges}
-use Rattle.losses.specs.Run.{startOf}
+use Rattle.stages.specs.Run.{startOf}
 use Rattle.stages.proofs.Leaving.{left-fits}
 use Rattle.losses.proofs.Lists.{length-over, lent, row-behind}
 

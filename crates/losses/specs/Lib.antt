@@ -1,2 +1,3 @@
 pub mod RunAges
-pub mod Run
+pub mod Answers
+pub mod Promise

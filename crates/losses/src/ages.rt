@@ -9,7 +9,7 @@ ghost use Rattle.stages.specs.Bounds.{Bounded, AgesBounded};
 ghost use Rattle.stages.specs.Ages.{agedFrom};
 ghost use Rattle.stages.specs.Intervals.{transferEnd};
 ghost use Rattle.losses.specs.RunAges.{rowBy, RanAges};
-ghost use Rattle.losses.specs.Run.{startOf};
+ghost use Rattle.stages.specs.Run.{startOf};
 use checks::buffers::PER_ROW;
 use fields::layout::HEAD_FIELDS;
 use fields::layout::MOST_FIELDS;

@@ -1,28 +1,16 @@
-// The run of an accepted member over lent buffers.
-ghost use mathlib.Core.Path.{_≡_};
-ghost use mathlib.Core.List.{_++_};
-ghost use Prim.Native.Nat.{_*_, _≤_};
-ghost use lib.ListN.{length, take, drop};
-ghost use Rattle.checks.specs.Quantities.{agesOf};
-ghost use Rattle.checks.specs.Readable.{Readable};
-ghost use Rattle.stages.specs.Bounds.{Bounded, AgesBounded};
-ghost use Rattle.losses.specs.Run.{memberResult, resultOfReading, Ran};
+// The two entries: a card or a list of doubles, over lent buffers of any length. Their one promise is the record `Promise`.
+ghost use Rattle.card.specs.Card.{cardOutcome};
+ghost use Rattle.list.specs.Lists.{listOutcome};
+ghost use Rattle.losses.specs.Promise.{Promise};
 
 pub mod ages;
+pub mod run;
 
-use ages::LastStress;
-use checks::buffers::PER_ROW;
 use fields::layout::MOST_FIELDS;
-use fields::refusal::Reading;
 use fields::refusal::Refusal;
-use member::Checked;
-use member::Member;
 use stages::BeforeAges;
-use stages::Begun;
-use stages::before;
-use stages::ends;
 
-// What an accepted run replies: those, and the last stress in psi.
+// What an accepted run replies: the losses before the ages and the stress after them, and the last stress in psi.
 pub struct Reply {
     pub before: BeforeAges,
     pub last: f64,
@@ -33,63 +21,22 @@ pub enum Answer {
     Refused(Refusal),
 }
 
-// The first numbers of a buffer, at the front of another.
-fn copy(from: &[u64], count: usize, to: &mut [u64])
-    requires { ⌜ (count ≤ length (now from)) × (count ≤ length (now to)) ⌝ }
-    ensures { λ _. ⌜ now (to .exit) ≡ take count (now (from .entry)) ++ drop count (now (to .entry)) ⌝ }
-{
-    let mut at = 0usize;
-    while at < count {
-        to[at] = from[at];
-        at += 1;
-    }
-}
-
-// The run of an accepted member. Rows are made in the scratch, and copied to the report once all ages are passed.
-pub fn run_member(
-    m: Member,
-    fields: &[u64; MOST_FIELDS],
-    report: &mut [u64],
-    scratch: &mut [u64],
-) -> Answer
-    requires { ⌜ (Bounded m) × (AgesBounded (m .«own_weight_moment») (agesOf (m .segments) (m .ages) (now fields))) ⌝ }
-    requires { ⌜ (4 * m .ages ≤ length (now report)) × (4 * m .ages ≤ length (now scratch)) ⌝ }
-    ensures { λ r. ⌜ Ran (memberResult m (agesOf (m .segments) (m .ages) (now (fields .entry))))
+// The run of a card, as bytes.
+pub fn run_card(card: &[u8], report: &mut [u64], scratch: &mut [u64]) -> Answer
+    ensures { λ r. ⌜ Promise (cardOutcome (now (card .entry)))
         r (now (report .exit)) (now (report .entry)) (now (scratch .exit)) (now (scratch .entry)) ⌝ }
 {
-    let thresholds = logarithm::thresholds();
-    let hours = m.hours;
-    let transfer = ends::end_at(m, &thresholds, m.own_weight_moment, hours.transfer);
-    let Begun::Begins(losses) = before::begin(m, transfer) else {
-        return Answer::Refused(Refusal::Stress(0));
-    };
-    match ages::run_ages(m, &thresholds, fields, transfer, losses.stress, scratch) {
-        LastStress::GoneAt(age) => Answer::Refused(Refusal::Stress(age)),
-        LastStress::Of(stress) => {
-            copy(scratch, PER_ROW * (m.ages as usize), report);
-            Answer::Accepted(Reply {
-                before: losses,
-                last: ticks::double_of_ticks(stress as u32),
-            })
-        }
-    }
+    let mut fields = [0u64; MOST_FIELDS];
+    let reading = card::read_card(card, &mut fields);
+    run::run_reading(reading, &fields, report, scratch)
 }
 
-// The run of fields that a reader has filled.
-pub fn run_fields(
-    fields: &[u64; MOST_FIELDS],
-    segments: u64,
-    ages: u64,
-    report: &mut [u64],
-    scratch: &mut [u64],
-) -> Answer
-    requires { ⌜ Readable segments ages (now fields) ⌝ }
-    ensures { λ r. ⌜ Ran (resultOfReading (Reading.Fields segments ages) (now (fields .entry)) (length (now (report .entry)))
-        (length (now (scratch .entry))))
+// The run of a list of doubles.
+pub fn run_list(list: &[f64], report: &mut [u64], scratch: &mut [u64]) -> Answer
+    ensures { λ r. ⌜ Promise (listOutcome (now (list .entry)))
         r (now (report .exit)) (now (report .entry)) (now (scratch .exit)) (now (scratch .entry)) ⌝ }
 {
-    match member::check_member(fields, segments, ages, report.len(), scratch.len()) {
-        Checked::Refused(refusal) => Answer::Refused(refusal),
-        Checked::Accepted(m) => run_member(m, fields, report, scratch),
-    }
+    let mut fields = [0u64; MOST_FIELDS];
+    let reading = list::read_list(list, &mut fields);
+    run::run_reading(reading, &fields, report, scratch)
 }

@@ -154,7 +154,7 @@ fn print_ages_of(card: &[u8], report: &[u64; MOST_NUMBERS]) {
 pub fn print_card(card: &[u8]) {
     let mut report = [0u64; MOST_NUMBERS];
     let mut scratch = [0u64; MOST_NUMBERS];
-    match entries::run_card(card, &mut report, &mut scratch) {
+    match losses::run_card(card, &mut report, &mut scratch) {
         Answer::Refused(refusal) => print_refusal(refusal),
         Answer::Accepted(reply) => {
             let before = reply.before;
@@ -216,7 +216,7 @@ pub fn print_list(list: &[f64], report_room: usize, scratch_room: usize) {
     let mut scratch = [0u64; MOST_ROOM];
     let lent = room_of(report_room);
     let spare = room_of(scratch_room);
-    match entries::run_list(list, &mut report[..lent], &mut scratch[..spare]) {
+    match losses::run_list(list, &mut report[..lent], &mut scratch[..spare]) {
         Answer::Refused(refusal) => print_refusal(refusal),
         Answer::Accepted(reply) => {
             let before = reply.before;

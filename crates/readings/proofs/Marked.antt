@@ -14,7 +14,7 @@ use Rattle.checks.specs.Quantities.{segmentsFrom, agesFrom}
 use Rattle.member.specs.Friction.{pathFriction}
 use Rattle.checks.specs.Rows.{firstFailing, segmentCodes, rangesOfSegments, rangesOfMoments, hoursOfAges}
 use Rattle.member.specs.Member.{checkedOf}
-use Rattle.losses.specs.Run.{memberResult}
+use Rattle.stages.specs.Run.{memberResult}
 use Rattle.readings.specs.Readings.{Marked, cardText, fieldsOf, hourly, numberAndPlace, resultOfCard, withAges}
 use Rattle.readings.specs.Readings.{double0153, halfApart}
 

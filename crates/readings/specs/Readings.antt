@@ -19,8 +19,8 @@ use Rattle.fields.specs.Refusals.{number, place}
 use Rattle.checks.specs.Quantities.{Segment, Age, agesOf}
 use Rattle.member.specs.Friction.{pathFriction, parabola}
 use Rattle.member.specs.Member.{frictionOf}
-use Rattle.losses.specs.Run.{Result, reported, refused}
-use Rattle.entries.specs.Promise.{resultOf}
+use Rattle.stages.specs.Run.{Result, reported, refused}
+use Rattle.losses.specs.Promise.{resultOf}
 
 -- ---- the text of a card: "Lines of 14-column fields, decimal digits right-justified behind spaces, each line ended by a line feed."
 

@@ -3,3 +3,4 @@ pub mod Bounds
 pub mod BeforeAges
 pub mod Ages
 pub mod Intervals
+pub mod Run

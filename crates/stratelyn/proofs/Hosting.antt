@@ -14,7 +14,8 @@ use Rattle.fields.specs.Refusals.{number}
 use Rattle.checks.specs.Rows.{perRow}
 use Rattle.losses.specs.declared.Reply.{Reply}
 use Rattle.losses.specs.declared.Answer.the-variants.{Accepted, Refused}
-use Rattle.losses.specs.Run.{Result, reported, refused, Answered}
+use Rattle.stages.specs.Run.{Result, reported, refused}
+use Rattle.losses.specs.Answers.{Answered}
 use Rattle.numbers.specs.Numbers.{room, bytesOfNumbers, written}
 use Rattle.stratelyn.specs.Parts.{Front, Rowed}
 use Rattle.stratelyn.specs.Hosts.{acceptance, replyOf, Hosted}

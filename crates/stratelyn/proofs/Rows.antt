@@ -28,8 +28,9 @@ use Rattle.losses.specs.declared.Answer.{Answer}
 use Rattle.stages.specs.BeforeAges.{begunOf}
 use Rattle.stages.specs.Stresses.{after}
 use Rattle.stages.specs.Ages.{Start, Aged, agedFrom, onward, behind, rowOf, nextStart, lossesIn}
-use Rattle.losses.specs.Run.{Result, reported, refused, startOf, resultOfAges, resultOfBegun, memberResult, resultOfChecked}
-use Rattle.losses.specs.Run.{resultOfReading, reportAfter, Ran}
+use Rattle.stages.specs.Run.{Result, reported, refused, startOf, resultOfAges, resultOfBegun, memberResult, resultOfChecked}
+use Rattle.stages.specs.Run.{resultOfReading}
+use Rattle.losses.specs.Answers.{reportAfter, Ran}
 use Rattle.stratelyn.specs.Parts.{mostNumbers, Front, Rowed}
 
 -- ---- four numbers for each age

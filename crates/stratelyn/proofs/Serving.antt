@@ -10,8 +10,8 @@ use Rattle.fields.specs.declared.refusal.Reading.the-variants.{Fields}
 use Rattle.fields.specs.Layout.{mostFields}
 use Rattle.fields.specs.Amounts.{Outcome, over}
 use Rattle.fields.proofs.Accepted.{Accepted}
-use Rattle.losses.specs.Run.{resultOfReading}
-use Rattle.entries.proofs.Readers.{all-close, same-result}
+use Rattle.stages.specs.Run.{resultOfReading}
+use Rattle.losses.proofs.Readers.{all-close, same-result}
 use Rattle.numbers.specs.Numbers.{room}
 use Rattle.stratelyn.specs.Hosts.{replyBytes, Hosted, Served}
 

@@ -12,8 +12,8 @@ use Rattle.ticks.specs.Doubles.{ticksPerUnit}
 use Rattle.fields.specs.Refusals.{number, place}
 use Rattle.fields.specs.Amounts.{Outcome}
 use Rattle.stages.specs.declared.BeforeAges.{BeforeAges}
-use Rattle.losses.specs.Run.{Result, reported, refused}
-use Rattle.entries.specs.Promise.{resultOf, CloseResult}
+use Rattle.stages.specs.Run.{Result, reported, refused}
+use Rattle.losses.specs.Promise.{resultOf, CloseResult}
 use Rattle.numbers.specs.Numbers.{room, written}
 
 -- "The refusal number (0 if accepted) is returned."

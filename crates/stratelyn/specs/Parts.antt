@@ -7,7 +7,8 @@ use lib.ListN.{take}
 use Rattle.fields.specs.Layout.{mostAges}
 use Rattle.checks.specs.Rows.{perRow}
 use Rattle.losses.specs.declared.Answer.{Answer}
-use Rattle.losses.specs.Run.{Result, reported, refused, Answered}
+use Rattle.stages.specs.Run.{Result, reported, refused}
+use Rattle.losses.specs.Answers.{Answered}
 
 -- the most numbers that a run can ask a buffer for
 abbrev pub mostNumbers : ℕ

@@ -7,7 +7,7 @@ ghost use lib.ListN.{length};
 ghost use lib.Ieee.{isNan, binary64, toBits, ofBits};
 ghost use Rattle.fields.specs.Refusals.{number};
 ghost use Rattle.checks.specs.Readable.{Readable, ReadableIf};
-ghost use Rattle.losses.specs.Run.{resultOfReading, refused};
+ghost use Rattle.stages.specs.Run.{resultOfReading, refused};
 ghost use Rattle.numbers.specs.Numbers.{room, written};
 ghost use Rattle.stratelyn.specs.Hosts.{replyBytes, acceptance, replyOf, Hosted};
 ghost use Rattle.stratelyn.specs.Parts.{mostNumbers, Rowed};
@@ -73,7 +73,7 @@ fn run_rows(
     let mut scratch = [0u64; MOST_NUMBERS];
     let report_room = numbers::room_up_to(MOST_NUMBERS, report_bytes);
     let scratch_room = numbers::room_up_to(MOST_NUMBERS, scratch_bytes);
-    losses::run_fields(
+    losses::run::run_fields(
         fields,
         segments,
         ages,

@@ -19,7 +19,7 @@ use Rattle.member.specs.Member.{memberOf}
 use Rattle.member.specs.Facts.{Facts}
 use Rattle.stages.specs.declared.BeforeAges.{BeforeAges}
 use Rattle.stages.specs.Ages.{Start}
-use Rattle.losses.specs.Run.{reported, startOf, memberResult}
+use Rattle.stages.specs.Run.{reported, startOf, memberResult}
 use Rattle.tolerance.specs.Stresses.{jacked, afterSegments}
 use Rattle.tolerance.specs.Stresses.{coreAfterSegments, coreAfterSlip, coreAfterEarly, exactStresses, coreStresses}
 use Rattle.tolerance.specs.Stresses.{reported as stressesOfRows}

@@ -21,7 +21,7 @@ use Rattle.stages.specs.declared.BeforeAges.{BeforeAges}
 use Rattle.stages.specs.Stresses.{leastStress, after}
 use Rattle.stages.specs.BeforeAges.{jacked, frictionOf, slipOf, deflectorOf, earlyRelaxationOf, shorteningOf, onward, begunOf}
 use Rattle.stages.specs.Ages.{Start, Aged, lossesIn, rowOf, nextStart, agedFrom, onward as agesOnward, behind}
-use Rattle.losses.specs.Run.{reported, resultOfAges, resultOfBegun, startOf, memberResult}
+use Rattle.stages.specs.Run.{reported, resultOfAges, resultOfBegun, startOf, memberResult}
 use Rattle.tolerance.specs.Stresses.{reported as stressesOfRows}
 use Rattle.tolerance.specs.Demand.{Falls, lossesBefore, lossesOfRows}
 

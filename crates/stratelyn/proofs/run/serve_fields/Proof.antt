@@ -11,7 +11,7 @@ use lib.ListN.{length}
 use lib.Seq.{length-take-le}
 use Rattle.fields.specs.declared.refusal.Reading.the-variants.{Fields}
 use Rattle.losses.specs.declared.Answer.the-variants.{Accepted}
-use Rattle.losses.specs.Run.{Result, resultOfReading}
+use Rattle.stages.specs.Run.{Result, resultOfReading}
 use Rattle.checks.specs.Rows.{perRow}
 use Rattle.numbers.specs.Numbers.{room}
 use Rattle.stratelyn.specs.Parts.{Rowed}

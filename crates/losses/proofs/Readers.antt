@@ -10,11 +10,12 @@ use Rattle.fields.specs.Layout.{mostFields, mostSegments, mostAges}
 use Rattle.fields.specs.Amounts.{Outcome, over}
 use Rattle.fields.proofs.Accepted.{Accepted}
 use Rattle.checks.specs.Readable.{ReadableIf}
 use Rattle.losses.specs.declared.Answer.{Answer}
-use Rattle.losses.specs.Run.{resultOfReading, Ran}
-use Rattle.entries.specs.Promise.{resultOf, CloseResult, Promise}
-use Rattle.entries.proofs.Closeness.{close}
-use Rattle.entries.proofs.Padding.{Same, same-ages, same-checked, over-zeros}
+use Rattle.stages.specs.Run.{resultOfReading}
+use Rattle.losses.specs.Answers.{Ran}
+use Rattle.losses.specs.Promise.{resultOf, CloseResult, Promise}
+use Rattle.losses.proofs.Closeness.{close}
+use Rattle.losses.proofs.Padding.{Same, same-ages, same-checked, over-zeros}
 
 module _ (outcome : Outcome)
     (counted : (segments ages : ℕ) → outcome .reading ≡ Fields segments ages → Accepted (outcome .numbers) segments ages) where

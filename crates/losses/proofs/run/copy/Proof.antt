@@ -7,8 +7,8 @@ use mathlib.Core.List.{_++_}
 use mathlib.Core.Path.{_≡_}
 use native.Mathlib.Omega.{arith}
 use Rattle.losses.proofs.Lists.{copied}
-use Rattle.losses.proofs.copy.Statement.{statement}
-use Rattle.losses.proofs.copy.Tie as tie
+use Rattle.losses.proofs.run.copy.Statement.{statement}
+use Rattle.losses.proofs.run.copy.Tie as tie
 
 abbrev Inv-loop : tie.InvT-loop
 Inv-loop from count to₀ at₀ to at = (at ≤ count) × ((length to ≡ length to₀) × (to ≡ take at from ++ drop at to₀))

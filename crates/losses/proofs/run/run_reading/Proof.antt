@@ -1,8 +1,8 @@
 -- What cannot be read leaves both buffers as they were; the fields of anything else are run. Assumes nothing.
 use borrow.Author.Needs.{needs}
 use Rattle.losses.proofs.Answering.{refused-early}
-use Rattle.entries.proofs.run_reading.Statement.{statement}
-use Rattle.entries.proofs.run_reading.Tie as tie
+use Rattle.losses.proofs.run.run_reading.Statement.{statement}
+use Rattle.losses.proofs.run.run_reading.Tie as tie
 
 enum-known-reading : tie.Need-enum-known-reading
 enum-known-reading c = search needs

@@ -1,9 +1,9 @@
 -- What the reader gives is run as it is lent. Assumes nothing.
 use borrow.Author.Needs.{needs}
 use Rattle.card.proofs.Laws.{card-accepted}
-use Rattle.entries.proofs.Readers.{readable-if, promised}
-use Rattle.entries.proofs.run_card.Statement.{statement}
-use Rattle.entries.proofs.run_card.Tie as tie
+use Rattle.losses.proofs.Readers.{readable-if, promised}
+use Rattle.losses.proofs.run_card.Statement.{statement}
+use Rattle.losses.proofs.run_card.Tie as tie
 
 read-card-requires : tie.Need-read-card-requires
 read-card-requires c κs = search needs

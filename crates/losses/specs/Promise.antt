@@ -6,8 +6,9 @@ use lib.ListN.{length}
 use Rattle.fields.specs.declared.refusal.Reading.{Reading}
 use Rattle.fields.specs.declared.refusal.Reading.the-variants.{Fields, Not}
 use Rattle.fields.specs.Amounts.{Outcome}
 use Rattle.losses.specs.declared.Answer.{Answer}
-use Rattle.losses.specs.Run.{Result, reported, refused, resultOfReading, Ran}
+use Rattle.stages.specs.Run.{Result, reported, refused, resultOfReading}
+use Rattle.losses.specs.Answers.{Ran}
 use Rattle.tolerance.specs.Demand.{Demand3}
 
 -- what a card or a list that reads so gives, with room for so many numbers in report and scratch

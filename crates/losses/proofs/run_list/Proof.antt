@@ -1,9 +1,9 @@
 -- What the reader gives is run as it is lent. Assumes nothing.
 use borrow.Author.Needs.{needs}
 use Rattle.list.proofs.Laws.{list-accepted}
-use Rattle.entries.proofs.Readers.{readable-if, promised}
-use Rattle.entries.proofs.run_list.Statement.{statement}
-use Rattle.entries.proofs.run_list.Tie as tie
+use Rattle.losses.proofs.Readers.{readable-if, promised}
+use Rattle.losses.proofs.run_list.Statement.{statement}
+use Rattle.losses.proofs.run_list.Tie as tie
 
 read-list-requires : tie.Need-read-list-requires
 read-list-requires c κs = search needs

@@ -5,8 +5,8 @@ use mathlib.Core.Path.{_≡_, sym, _∙_}
 use native.Mathlib.Omega.{arith}
 use Rattle.losses.proofs.Answering.{last-fits, none-begins, none-left, all-passed}
 use Rattle.stages.proofs.Beginning.{begun-fits}
-use Rattle.losses.proofs.run_member.Statement.{statement}
-use Rattle.losses.proofs.run_member.Tie as tie
+use Rattle.losses.proofs.run.run_member.Statement.{statement}
+use Rattle.losses.proofs.run.run_member.Tie as tie
 use Rattle.stages.specs.BeforeAges.{begunOf}
 use Rattle.stages.specs.declared.Begun.the-variants.{Begins}
 use Rattle.checks.specs.Quantities.{agesOf}

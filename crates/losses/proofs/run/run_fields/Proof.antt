@@ -5,8 +5,8 @@ use lib.ListN.{length}
 use mathlib.Core.Path.{_≡_, sym, _∙_}
 use Rattle.losses.proofs.Accepting.{same-ages, runs}
 use Rattle.losses.proofs.Answering.{refused-early}
-use Rattle.losses.proofs.run_fields.Statement.{statement}
-use Rattle.losses.proofs.run_fields.Tie as tie
+use Rattle.losses.proofs.run.run_fields.Statement.{statement}
+use Rattle.losses.proofs.run.run_fields.Tie as tie
 use Rattle.member.specs.Member.{checkedOf}
 use Rattle.member.specs.declared.Checked.the-variants.{Accepted}
 

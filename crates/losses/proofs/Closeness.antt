@@ -12,9 +12,9 @@ use Rattle.member.specs.declared.Checked.the-variants.{Accepted, Refused}
 use Rattle.checks.specs.Quantities.{agesOf}
 use Rattle.member.specs.Member.{checkedOf}
 use Rattle.member.proofs.Laws.{accepted}
-use Rattle.losses.specs.Run.{Result, reported, refused, memberResult, resultOfChecked, resultOfReading}
+use Rattle.stages.specs.Run.{Result, reported, refused, memberResult, resultOfChecked, resultOfReading}
 use Rattle.tolerance.proofs.Demand3.{demand-3}
-use Rattle.entries.specs.Promise.{CloseRun, CloseResult}
+use Rattle.losses.specs.Promise.{CloseRun, CloseResult}
 
 module _ (segments ages : ℕ) (fields : List ℕ) (few-segments : segments ≤ mostSegments) (few-ages : ages ≤ mostAges)
     (report scratch : ℕ) where

@@ -1,3 +1,0 @@
-pub mod Closeness
-pub mod Padding
-pub mod Readers
