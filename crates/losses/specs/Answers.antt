@@ -1,4 +1,4 @@
--- What an entry answers, and what it leaves of the lent buffers: document 01, "The card" and "Terms with the other makers". Assumes
+-- What an entry answers, and what it leaves of the lent buffers: document 01, "Refusal by place of checking", its last lines. Assumes
 -- nothing.
 use mathlib.Core.Path.{_≡_}
 use mathlib.Core.Bool.{Bool, true, false, not}
