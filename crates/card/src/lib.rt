@@ -18,12 +18,14 @@ use fields::refusal::Reading;
 use fields::refusal::Refusal;
 use line::COLUMNS;
 
-// The bytes of lines 1 to 4. The first line of a segment, and its first field.
-const HEAD_BYTES: usize = 340;
+const HEAD_LINES: usize = 4;
 
-const SEGMENT_LINE: usize = 5;
+// The bytes of lines 1 to 4, each with its line feed. The first line of a segment, and its first field.
+const HEAD_BYTES: usize = COLUMNS * HEAD_FIELDS + HEAD_LINES;
 
-const SEGMENT_FIELD: usize = 25;
+const SEGMENT_LINE: usize = HEAD_LINES + 1;
+
+const SEGMENT_FIELD: usize = HEAD_FIELDS + 1;
 
 // Lines of `counts` fields each, from the front of `part` on; the first is line `line` and begins with field `field`. The first
 // wrong line, or 0; the numbers before the first wrong field are written at the front of `fields`.

@@ -54,6 +54,6 @@ firstAgeField segments = firstSegmentField + perSegment * segments
 abbrev pub fieldsIn : ℕ → ℕ → ℕ
 fieldsIn segments ages = headFields + perSegment * segments + perAge * ages
 
--- the most that one can have: 24 + 3·64 + 2·64
+-- the most that one can have
 abbrev pub mostFields : ℕ
-mostFields = 344
+mostFields = fieldsIn mostSegments mostAges

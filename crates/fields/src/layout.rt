@@ -1,6 +1,9 @@
 // How the fields of a card or a list are numbered, and how many there can be. Field k of document 01 is element k - 1.
 
-pub const SLIP: usize = 6;
+use crate::places;
+
+// Fields by their numbers.
+pub const SLIP: usize = places::SLIP + 1;
 
 pub const SEGMENTS: usize = 23;
 
@@ -19,5 +22,4 @@ pub const LEAST_AGES: usize = 3;
 
 pub const MOST_AGES: usize = 64;
 
-// 24 + 3·64 + 2·64
-pub const MOST_FIELDS: usize = 344;
+pub const MOST_FIELDS: usize = HEAD_FIELDS + PER_SEGMENT * MOST_SEGMENTS + PER_AGE * MOST_AGES;

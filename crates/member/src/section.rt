@@ -5,12 +5,11 @@ ghost use Rattle.member.specs.Constants.{kappa, wholeCreep, wholeShrinka
 ghost use Rattle.member.specs.Facts.{SectionFits, mostCreep};
 use coefficient::codes::Concrete;
 use coefficient::codes::Cure;
+use steps::KAPPA_UNIT;
+use ticks::TICKS_PER_UNIT;
 
-// 2^32
-const WHOLE: u64 = 4_294_967_296;
-
-// 2^32 over 1,024 twice
-const WHOLE_OF_TICKS: u64 = 4_096;
+// 4,096: what is left of κ's unit beside the ticks of e².
+const WHOLE_OF_TICKS: u64 = KAPPA_UNIT / (TICKS_PER_UNIT * TICKS_PER_UNIT);
 
 // "U = UCR·SCF·MCF/439,453,125"
 const CREEP_DIVISOR: u64 = 439_453_125;
@@ -22,7 +21,7 @@ pub fn kappa_of(steel_area: u64, area: u64, eccentricity: u64, inertia: u64) -> 
     requires { ⌜ SectionFits «steel_area» area eccentricity inertia ⌝ }
     ensures { λ r. ⌜ r ≡ kappa «steel_area» area eccentricity inertia ⌝ }
 {
-    let axial = steel_area * WHOLE / area;
+    let axial = steel_area * KAPPA_UNIT / area;
     let bending = WHOLE_OF_TICKS * steel_area * (eccentricity * eccentricity) / inertia;
     axial + bending
 }

@@ -14,7 +14,7 @@ use member::Member;
 use ticks::TICKS_PER_UNIT;
 
 // 1,000 psi, in ticks.
-const LEAST_STRESS: u64 = 1_024_000;
+const LEAST_STRESS: u64 = 1_000 * TICKS_PER_UNIT;
 
 // What a loss leaves of a stress.
 pub fn after(stress: u64, loss: u64) -> Stress

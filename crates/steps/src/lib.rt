@@ -9,7 +9,7 @@ use tables::T;
 use ticks::TICKS_PER_UNIT;
 
 // 2^32: what κ is in parts of.
-const KAPPA_UNIT: u64 = 4_294_967_296;
+pub const KAPPA_UNIT: u64 = 4_294_967_296;
 
 const INCHES_TO_A_FOOT: u64 = 12;
 
@@ -26,9 +26,9 @@ const STRESS_RELIEVED_DIVISOR: u64 = 2_560;
 const LOW_RELAXATION_DIVISOR: u64 = 11_520;
 
 // 0.55 T and 0.05 T, rounded.
-const FREE_OF_RELAXATION: u64 = 9_227_468;
+const FREE_OF_RELAXATION: u64 = 55 * T / HUNDREDTHS;
 
-const LEAST_FACTOR: u64 = 838_860;
+const LEAST_FACTOR: u64 = 5 * T / HUNDREDTHS;
 
 // later - earlier, and 0 where that is negative.
 pub fn difference(later: u64, earlier: u64) -> u64
