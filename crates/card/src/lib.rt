@@ -34,7 +34,8 @@ fn read_lines(part: &[u8], counts: &[usize], line: usize, field: usize, fields: 
     requires { ⌜ (0 < line) × (line ≤ mostFields) ⌝ }
     requires { ⌜ field ≤ mostFields ⌝ }
     ensures { λ r. ⌜ r ≡ readLines (now (counts .entry)) line field (now (part .entry)) .wrong ⌝ }
-    ensures { λ r. ⌜ now (fields .exit) ≡ over (readLines (now (counts .entry)) line field (now (part .entry)) .numbers) (now (fields .entry)) ⌝ }
+    ensures { λ r. ⌜ now (fields .exit)
+        ≡ over (readLines (now (counts .entry)) line field (now (part .entry)) .numbers) (now (fields .entry)) ⌝ }
 {
     let mut done = 0usize;
     let mut at = 0usize;

@@ -1,7 +1,8 @@
 -- The numbers and places of document 01, "Refusal by place of checking", row by row. Assumes nothing.
 use Prim.Native.Nat.{ℕ}
 use Rattle.fields.specs.declared.refusal.Refusal.{Refusal}
-use Rattle.fields.specs.declared.refusal.Refusal.the-variants.{Shape, Doubles, Codes, Ranges, Hours, Duct, Buffers, Section, Creep, Stress}
+use Rattle.fields.specs.declared.refusal.Refusal.the-variants.{Shape, Doubles, Codes, Ranges, Hours, Duct, Buffers}
+use Rattle.fields.specs.declared.refusal.Refusal.the-variants.{Section, Creep, Stress}
 
 abbrev pub number : Refusal → ℕ
 number (Shape line) = 8

@@ -13,7 +13,8 @@ use Rattle.ticks.specs.declared.Amount.the-variants.{Of, Refused}
 use Rattle.fields.specs.declared.refusal.Reading.{Reading}
 use Rattle.fields.specs.declared.refusal.Reading.the-variants.{Fields, Not}
 use Rattle.fields.specs.declared.refusal.Refusal.the-variants.{Shape, Doubles, Ranges}
-use Rattle.fields.specs.Layout.{segmentsField, agesField, mostSegments, agesOutOfRange, headFields, firstSegmentField, firstAgeField, perSegment, perAge, fieldsIn}
+use Rattle.fields.specs.Layout.{segmentsField, agesField, mostSegments, agesOutOfRange, headFields, firstSegmentField}
+use Rattle.fields.specs.Layout.{firstAgeField, perSegment, perAge, fieldsIn}
 use Rattle.fields.specs.Amounts.{numbersIn, allRead, over, Outcome, refused, accepted}
 
 -- ---- a field

@@ -162,7 +162,8 @@ fn age_amount(x: f64, past: usize) -> Amount
 
 // What the element at `at` reads, by where it stands.
 fn amount_at(list: &[f64], section: Section, segments: usize, at: usize) -> Amount
-    requires { ⌜ (at < length (now list)) × ((headFields + perSegment * segments ≤ length (now list)) × (section ≡ sectionOf (now list))) ⌝ }
+    requires { ⌜ (at < length (now list))
+        × ((headFields + perSegment * segments ≤ length (now list)) × (section ≡ sectionOf (now list))) ⌝ }
     ensures { λ r. ⌜ r ≡ amountOf segments (at + 1) (getD (now (list .entry)) at nan) ⌝ }
 {
     if at < HEAD_FIELDS {

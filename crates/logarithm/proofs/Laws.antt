@@ -3,7 +3,8 @@
 use mathlib.Core.Path.{_≡_}
 use mathlib.Core.Logic.{⊎-elim}
 use Prim.Native.Nat.{ℕ, suc, _^_, _≤_, _<_}
-use native.Mathlib.Nat.{pow-le-pow-left, pow-le-pow-right, lt-of-le-of-lt, lt-of-lt-of-le, le-trans, one-le-pow, lt-of-not-le, not-le-of-lt}
+use native.Mathlib.Nat.{pow-le-pow-left, pow-le-pow-right, lt-of-le-of-lt, lt-of-lt-of-le, le-trans, one-le-pow, lt-of-not-le}
+use native.Mathlib.Nat.{not-le-of-lt}
 use native.Mathlib.Omega.{arith}
 use lib.Dec.{lit<, lit≤}
 use Rattle.logarithm.specs.Logarithm.{power, lastThreshold, serviceLife, logarithm, IsLargest}

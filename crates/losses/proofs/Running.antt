@@ -105,7 +105,7 @@ begins m fields stress old start b a s r e = record {
   kept = refl;
 }
 
-module _ (m : Member) (fields : List ℕ) (first : ℕ) (old scratch : List ℕ) (stress : ℕ) (start : End) (field at number : ℕ)
+module _ {m : Member} {fields : List ℕ} {first : ℕ} {old scratch : List ℕ} {stress : ℕ} {start : End} {field at number : ℕ}
     (p : Progress m fields first old scratch stress start field at number) where
   -- what the ages give
   abbrev ofAges : Aged

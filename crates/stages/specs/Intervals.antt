@@ -1,5 +1,5 @@
--- What the run carries from one interval to the next, and what it makes of the ages: the definitions of `Ages`, over the two ends of
--- an interval, so that each end is read once. Assumes nothing.
+-- What the run carries from one interval to the next: the definitions of `Ages` over the two ends of an interval, so that each end is
+-- read once. Assumes nothing.
 use Prim.Native.Nat.{ℕ, _+_, _-_, _≤_}
 use Rattle.tables.specs.Tables.{T}
 use Rattle.member.specs.declared.Member.{Member}

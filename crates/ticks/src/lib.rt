@@ -150,7 +150,8 @@ pub fn read_number(part: &[u8]) -> u64
 
 // A number's eight bytes at the front of a part, lowest first; in a shorter part, as many as it holds.
 pub fn write_number(part: &mut [u8], number: u64)
-    ensures { λ _. ⌜ now (part .exit) ≡ take (length (now (part .entry))) (bytesOf bytesPerNumber number) ++ drop bytesPerNumber (now (part .entry)) ⌝ }
+    ensures { λ _. ⌜ now (part .exit)
+        ≡ take (length (now (part .entry))) (bytesOf bytesPerNumber number) ++ drop bytesPerNumber (now (part .entry)) ⌝ }
 {
     let mut rest = number;
     let mut at = 0usize;

@@ -16,7 +16,8 @@ use Rattle.tolerance.specs.Quotients.{_÷_, inverse}
 use Rattle.tolerance.specs.Steps.{concreteStress, shorteningLoss}
 use Rattle.tolerance.proofs.Quotients.{quotient-not-negative, inverse-cancels}
 use Rattle.tolerance.proofs.Rounded.{Rounded, rounded-exact, rounded-sum, rounded-part, rounded-weaken, rounded-not-negative}
-use Rattle.tolerance.proofs.Rounded.{floor-product-below, floor-product-above, whole-cancel, inverse-not-negative, above-zero}
+use Rattle.tolerance.proofs.Rounded.{floor-product-below, floor-product-above, whole-cancel, inverse-not-negative}
+use Rattle.tolerance.proofs.Rounded.{above-zero}
 use Rattle.tolerance.proofs.Concrete.{highestStress, kappaUnit, kappa-unit-not-negative}
 use Rattle.tolerance.proofs.Concrete.{concrete-is-hinge, concrete-not-negative, concrete-below, concrete-near}
 

@@ -11,14 +11,17 @@ use Rattle.coefficient.specs.declared.codes.Kind.the-variants.{Pretensioned, Po
 use Rattle.coefficient.specs.declared.clocks.MemberHours.{MemberHours}
 use Rattle.coefficient.specs.Clocks.{sinceTransfer, sinceCuring, sinceTensioning}
 use Rattle.tables.specs.Tables.{creepShareRows, shrinkageShareRows}
-use Rattle.checks.specs.Quantities.{Segment, Age, segmentsOf, agesOf, jackingStress, deflectorLoss, slip, tendonLength, ultimateStrength, Es, Eci, eccentricity, inertia, ownWeightMoment, endOfCuring, transfer, wobble, curvature}
+use Rattle.checks.specs.Quantities.{Segment, Age, segmentsOf, agesOf, jackingStress, deflectorLoss, slip, tendonLength}
+use Rattle.checks.specs.Quantities.{ultimateStrength, Es, Eci, eccentricity, inertia, ownWeightMoment, endOfCuring, transfer}
+use Rattle.checks.specs.Quantities.{wobble, curvature}
 use Rattle.checks.specs.Rows.{perRow}
 use Rattle.member.specs.Member.{kindOf, steelOf}
 use Rattle.member.specs.Friction.{pathFriction as ticksFriction}
 use Rattle.steps.specs.Steps.{frictionLoss as ticksFrictionLoss}
 use Rattle.stages.specs.declared.BeforeAges.{BeforeAges}
 use Rattle.tolerance.specs.Coefficients.{pathFriction, kappa, wholeCreep, wholeShrinkage, shareOf}
-use Rattle.tolerance.specs.Steps.{frictionLoss, slipLoss, relaxationLoss, momentStress, concreteStress, shorteningLoss, creepLoss, shrinkageLoss}
+use Rattle.tolerance.specs.Steps.{frictionLoss, slipLoss, relaxationLoss, momentStress, concreteStress, shorteningLoss}
+use Rattle.tolerance.specs.Steps.{creepLoss, shrinkageLoss}
 
 abbrev pub hoursOf : List ℕ → MemberHours
 hoursOf fields = record { kind = kindOf fields; «end_of_curing» = endOfCuring fields; transfer = transfer fields }

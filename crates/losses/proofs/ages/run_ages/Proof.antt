@@ -41,7 +41,7 @@ element-copy-out-hour : tie.Need-element-copy-out-hour Inv-loop μ-loop
 element-copy-out-hour c = search needs
 
 cast-hour : tie.Need-cast-hour Inv-loop μ-loop
-cast-hour c = record { fits = hour-fits _ _ _ _ _ _ _ _ _ _ (c .before .before .loop .inv) (c .before .loop-test .taken) }
+cast-hour c = record { fits = hour-fits (c .before .before .loop .inv) (c .before .loop-test .taken) }
 
 add-moments : tie.Need-add-moments Inv-loop μ-loop
 add-moments c = search needs
@@ -60,7 +60,7 @@ moments-most : (c : tie.After-struct-known Inv-loop μ-loop)
     loop .start .moments + getD (now (args .fields)) (loop .field + 1) 0 ≤ 2 ^ 40
 moments-most c =
     let turn = c .before .before .before in
-    moments-fit _ _ _ _ _ _ _ _ _ _ (turn .before .loop .inv) (turn .loop-test .taken)
+    moments-fit (turn .before .loop .inv) (turn .loop-test .taken)
 
 add-moments-2 : tie.Need-add-moments-2 Inv-loop μ-loop
 add-moments-2 c = omega (arith, moments-most c)
@@ -76,6 +76,10 @@ pass-requires c κs =
     let start = loop .before .before in
     (start .pre .0 .0, loop .loop .inv .stress-fits, rw (c .end-at .ensures) (end-bounded (start .args .m) _ _))
 
+-- the turn of the loop in which an interval is passed
+abbrev turn : tie.After-pass Inv-loop μ-loop → tie.In-loop Inv-loop μ-loop
+turn c = c .before .before .before .before .before
+
 enum-known-losses : tie.Need-enum-known-losses Inv-loop μ-loop
 enum-known-losses c = search needs
 
@@ -83,19 +87,16 @@ enum-told : tie.Need-enum-told Inv-loop μ-loop
 enum-told c = search needs
 
 same-length : tie.Need-same-length Inv-loop μ-loop
-same-length c = c .before .before .before .before .before .before .before .before .loop .inv .kept
+same-length c = turn (c .before .before) .before .loop .inv .kept
 
 returns : tie.Need-returns Inv-loop μ-loop
 returns c =
     let passing = c .before .before in
-    let turn = passing .before .before .before .before .before in
-    stops _ _ _ _ _ _ _ _ _ _ (turn .before .loop .inv) (turn .loop-test .taken) _ (passing .before .end-at .ensures)
+    stops (turn passing .before .loop .inv) (turn passing .loop-test .taken) _ (passing .before .end-at .ensures)
     _ (passing .pass .ensures) (c .enum-told .given .1)
 
 mul-write-row : tie.Need-mul-write-row Inv-loop μ-loop
-mul-write-row c =
-    let progress = c .before .before .before .before .before .before .before .before .before .loop .inv in
-    omega arith
+mul-write-row c = let progress = turn (c .before .before .before) .before .loop .inv in omega arith
 
 sub-write-row : tie.Need-sub-write-row Inv-loop μ-loop
 sub-write-row c = search needs
@@ -108,18 +109,14 @@ part-write-row-end c = search needs
 
 write-row-requires : tie.Need-write-row-requires Inv-loop μ-loop
 write-row-requires c κs =
-    let turn = c .before .before .before .before .before .before .before .before .before in
-    room-for-row _ _ _ _ _ _ _ _ _ _ (turn .before .loop .inv) (turn .loop-test .taken)
+    let passing = c .before .before .before .before in
+    room-for-row (turn passing .before .loop .inv) (turn passing .loop-test .taken)
 
 add-field-2 : tie.Need-add-field-2 Inv-loop μ-loop
-add-field-2 c =
-    let progress = c .before .before .before .before .before .before .before .before .before .before .before .before .before .loop .inv in
-    omega arith
+add-field-2 c = let progress = turn (c .before .before .before .before .before .before .before) .before .loop .inv in omega arith
 
 add-at : tie.Need-add-at Inv-loop μ-loop
-add-at c =
-    let progress = c .before .before .before .before .before .before .before .before .before .before .before .before .before .loop .inv in
-    omega arith
+add-at c = let progress = turn (c .before .before .before .before .before .before .before) .before .loop .inv in omega arith
 
 loop-less : tie.Need-loop-less Inv-loop μ-loop
 loop-less c = search needs
@@ -129,15 +126,14 @@ loop-again c =
     let written = c .before .before in
     let passes = written .before .before .before in
     let passing = passes .before .before in
-    let turn = passing .before .before .before .before .before in
-    turns _ _ _ _ _ _ _ _ _ _ (turn .before .loop .inv) (turn .loop-test .taken) _ (passing .before .end-at .ensures)
+    turns (turn passing .before .loop .inv) (turn passing .loop-test .taken) _ (passing .before .end-at .ensures)
     _ (passing .pass .ensures) _ _ _ (passes .losses .given .1) (written .write-row .ensures)
 
 same-length-2 : tie.Need-same-length-2 Inv-loop μ-loop
 same-length-2 c = c .before .loop .inv .kept
 
 returns-2 : tie.Need-returns-2 Inv-loop μ-loop
-returns-2 c = ends _ _ _ _ _ _ _ _ _ _ (c .before .loop .inv) (c .loop-test .left)
+returns-2 c = ends (c .before .loop .inv) (c .loop-test .left)
 
 pub run-ages-spec : {M : Type 1} → statement M
 run-ages-spec =

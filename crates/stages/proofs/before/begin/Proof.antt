@@ -17,28 +17,32 @@ three-is c =
     rw (c .before .deflector-ticks .ensures, c .before .before .slip-loss .ensures, c .before .before .before .friction-loss .ensures)
     at (c .after-three .ensures)
 
+-- the start, of which the stress after the deflector is told
+abbrev start : tie.After-known-told → tie.Start
+start c = c .before .before .before .before .before .before .before .before
+
 deflected-is : (c : tie.After-known-told)
-    → let m = c .before .before .before .before .before .before .before .before .args .m in
+    → let m = start c .args .m in
     afterThree (jacked m) (frictionOf m) (slipOf m) (deflectorOf m) ≡ Left (c .before .deflected .given .0 .0)
 deflected-is c = sym (three-is (c .before .before .before)) ∙ c .before .deflected .given .1
 
 relaxation-leaves : (c : tie.After-after)
     → let at-deflector = c .before .before in
-    let m = at-deflector .before .before .before .before .before .before .before .before .args .m in
+    let m = start at-deflector .args .m in
     let stress = at-deflector .before .deflected .given .0 .0 in
     c .after .result ≡ after stress (earlyRelaxationOf m stress)
 relaxation-leaves c = rw (c .before .early-relaxation .ensures) at (c .after .ensures)
 
 relaxed-is : (c : tie.After-known-told2)
     → let at-deflector = c .before .before .before .before .before in
-    let m = at-deflector .before .before .before .before .before .before .before .before .args .m in
+    let m = start at-deflector .args .m in
     let stress = at-deflector .before .deflected .given .0 .0 in
     after stress (earlyRelaxationOf m stress) ≡ Left (c .before .relaxed .given .0 .0)
 relaxed-is c = sym (relaxation-leaves (c .before .before .before)) ∙ c .before .relaxed .given .1
 
 shortening-leaves : (c : tie.After-after2)
     → let at-deflector = c .before .before .before .before .before .before .before in
-    let m = at-deflector .before .before .before .before .before .before .before .before .args .m in
+    let m = start at-deflector .args .m in
     let stress = c .before .before .before .relaxed .given .0 .0 in
     c .after2 .result ≡ after stress (shorteningOf m stress)
 shortening-leaves c = rw (c .before .shortening .ensures) at (c .after2 .ensures)
@@ -69,8 +73,8 @@ returns c = fails-deflected _ (sym (three-is (c .before .before)) ∙ c .enum-to
 
 early-relaxation-requires : tie.Need-early-relaxation-requires
 early-relaxation-requires c κs =
-    let start = c .before .before .before .before .before .before .before .before in
-    (start .pre .0, start .pre .1, deflected-fits _ _ (start .pre .0) (deflected-is c))
+    let pre = start c .pre in
+    (pre .0, pre .1, deflected-fits _ _ (pre .0) (deflected-is c))
 
 after-requires : tie.Need-after-requires
 after-requires c κs = search needs
@@ -89,11 +93,8 @@ returns-2 c =
 shortening-requires : tie.Need-shortening-requires
 shortening-requires c κs =
     let deflected = c .before .before .before .before .before in
-    let start = deflected .before .before .before .before .before .before .before .before in (
-      start .pre .0,
-      start .pre .1,
-      left-fits _ _ _ (deflected-fits _ _ (start .pre .0) (deflected-is deflected)) (relaxed-is c),
-    )
+    let pre = start deflected .pre in
+    (pre .0, pre .1, left-fits _ _ _ (deflected-fits _ _ (pre .0) (deflected-is deflected)) (relaxed-is c))
 
 after-requires-2 : tie.Need-after-requires-2
 after-requires-2 c κs = search needs
