@@ -8,7 +8,7 @@ use native.Mathlib.Omega.{arith}
 use lib.ListN.{getD, drop}
 use lib.Seq.{getD-drop, drop-drop}
 use Rattle.fields.specs.Layout.{headFields, perSegment, perAge}
-use Rattle.checks.specs.Quantities.{Segment, segmentsFrom, segmentsOf, Age, agesFrom, agesOf}
+use Rattle.fields.specs.Quantities.{Segment, segmentsFrom, segmentsOf, Age, agesFrom, agesOf}
 use Rattle.checks.specs.Parts.{segment}
 
 -- the element before the fields of the segment `k`, and of the age `k` of those behind `first` fields

@@ -3,7 +3,7 @@ use mathlib.Core.List.{List, [], _∷_}
 use Prim.Native.Nat.{ℕ, _+_, _<_}
 use native.Mathlib.Omega.{arith}
 use lib.Dec.{lit<}
-use Rattle.checks.specs.Quantities.{Segment, Age}
+use Rattle.fields.specs.Quantities.{Segment, Age}
 use Rattle.checks.specs.Rows.{headCodes, segmentCodes, rangesOfLine1, rangesOfLine2, rangesOfLine3, rangesOfLine4}
 use Rattle.checks.specs.Rows.{rangesOfSegments, rangesOfMoments, hoursOfAges}
 use Rattle.checks.proofs.Rows.{Placed, none, more}

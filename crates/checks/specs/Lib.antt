@@ -1,4 +1,3 @@
-pub mod Quantities
 pub mod Rows
 pub mod Readable
 pub mod Parts

@@ -2,7 +2,7 @@
 use Prim.Native.Nat.{ℕ}
 use mathlib.Core.Bool.{cond}
 use lib.Dec.{eqb}
-use Rattle.checks.specs.Quantities.{Segment}
+use Rattle.fields.specs.Quantities.{Segment}
 use Rattle.checks.specs.Rows.{Check}
 
 -- the place that the earlier part gives, or else the later one's; 0: none

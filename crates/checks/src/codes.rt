@@ -2,7 +2,7 @@
 ghost use mathlib.Core.Path.{_≡_};
 ghost use Prim.Native.Nat.{_≤_};
 ghost use Rattle.fields.specs.Layout.{firstSegmentField, mostSegments};
-ghost use Rattle.checks.specs.Quantities.{segmentsOf};
+ghost use Rattle.fields.specs.Quantities.{segmentsOf};
 ghost use Rattle.checks.specs.Rows.{firstFailing, headCodes, segmentCodes, codes};
 use crate::row;
 use fields::layout::HEAD_FIELDS;

@@ -1,7 +1,7 @@
 // Row "hours". A place is the number of a field.
 ghost use mathlib.Core.Path.{_≡_};
 ghost use Rattle.fields.specs.Layout.{firstAgeField};
-ghost use Rattle.checks.specs.Quantities.{agesOf, transfer};
+ghost use Rattle.fields.specs.Quantities.{agesOf, transfer};
 ghost use Rattle.checks.specs.Rows.{firstFailing, curingFits, transferFits, hoursOfAges, hours};
 ghost use Rattle.checks.specs.Readable.{Readable};
 use crate::row;

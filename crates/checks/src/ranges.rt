@@ -2,7 +2,7 @@
 ghost use mathlib.Core.Path.{_≡_};
 ghost use Prim.Native.Nat.{_≤_};
 ghost use Rattle.fields.specs.Layout.{firstSegmentField, firstAgeField, mostSegments};
-ghost use Rattle.checks.specs.Quantities.{segmentsOf, agesOf, ownWeightMoment};
+ghost use Rattle.fields.specs.Quantities.{segmentsOf, agesOf, ownWeightMoment};
 ghost use Rattle.checks.specs.Rows.{firstFailing, lengthFits, riseFits, rangesOfLine1, rangesOfLine2};
 ghost use Rattle.checks.specs.Rows.{rangesOfLine3, rangesOfLine4, rangesOfSegments, rangesOfMoments, ranges};
 ghost use Rattle.checks.specs.Readable.{Small, Readable};

@@ -1,3 +1,4 @@
 pub mod Refusals
 pub mod Layout
 pub mod Amounts
+pub mod Quantities

@@ -8,7 +8,7 @@ use Rattle.coefficient.specs.declared.codes.Cure.{Cure}
 use Rattle.coefficient.specs.declared.codes.Concrete.{Concrete}
 use Rattle.coefficient.proofs.Laws.{ucr-range, scf-range, mcf-range, ush-range, ssf-range}
 use Rattle.member.specs.declared.Member.{Member}
-use Rattle.checks.specs.Quantities.{Age, agesOf, ownWeightMoment}
+use Rattle.fields.specs.Quantities.{Age, agesOf, ownWeightMoment}
 use Rattle.member.specs.Constants.{wholeCreep, wholeShrinkage}
 use Rattle.member.specs.declared.Checked.the-variants.{Accepted}
 use Rattle.checks.specs.Readable.{Readable}

@@ -13,7 +13,7 @@ use Rattle.ticks.specs.Doubles.{ticksPerUnit}
 use Rattle.fields.specs.declared.refusal.Refusal.{Refusal}
 use Rattle.fields.specs.declared.refusal.Refusal.the-variants.{Stress as StressRefusal}
 use Rattle.member.specs.declared.Member.{Member}
-use Rattle.checks.specs.Quantities.{Age}
+use Rattle.fields.specs.Quantities.{Age}
 use Rattle.checks.specs.Rows.{perRow}
 use Rattle.stages.specs.declared.Stress.{Stress}
 use Rattle.stages.specs.declared.Stress.the-variants.{Left, Gone}

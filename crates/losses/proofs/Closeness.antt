@@ -9,7 +9,7 @@ use Rattle.fields.specs.Layout.{mostSegments, mostAges}
 use Rattle.member.specs.declared.Member.{Member}
 use Rattle.member.specs.declared.Checked.{Checked}
 use Rattle.member.specs.declared.Checked.the-variants.{Accepted, Refused}
-use Rattle.checks.specs.Quantities.{agesOf}
+use Rattle.fields.specs.Quantities.{agesOf}
 use Rattle.member.specs.Member.{checkedOf}
 use Rattle.member.proofs.Laws.{accepted}
 use Rattle.stages.specs.Run.{Result, reported, refused, memberResult, resultOfChecked, resultOfReading}

@@ -7,7 +7,7 @@ use lib.ListN.{length, getD, drop, replicate}
 use lib.Seq.{getD-drop}
 use Rattle.fields.specs.Layout.{headFields, perSegment}
 use Rattle.fields.specs.Amounts.{over}
-use Rattle.checks.specs.Quantities.{segmentsFrom, segmentsOf, agesFrom, agesOf}
+use Rattle.fields.specs.Quantities.{segmentsFrom, segmentsOf, agesFrom, agesOf}
 use Rattle.member.specs.Member.{checkedOf}
 
 -- two lists of fields that read the same everywhere

@@ -12,7 +12,7 @@ use borrow.Rule.Slice.PartMut.{midOf, putMid}
 use Rattle.fields.specs.Layout.{headFields, perSegment, perAge}
 use Rattle.fields.specs.Amounts.{over}
 use Rattle.member.specs.declared.Member.{Member}
-use Rattle.checks.specs.Quantities.{Age, agesFrom, agesOf}
+use Rattle.fields.specs.Quantities.{Age, agesFrom, agesOf}
 use Rattle.checks.specs.Rows.{perRow}
 use Rattle.stages.specs.declared.Stress.{Stress}
 use Rattle.stages.specs.declared.Stress.the-variants.{Left, Gone}
@@ -140,7 +140,7 @@ module _ {m : Member} {fields : List ℕ} {first : ℕ} {old scratch : List ℕ}
     pub hour-fits : getD fields field 0 < 2 ^ 32
     hour-fits = let most = age-bounded .0 in omega arith
 
-    pub room-for-row : 4 ≤ length (midOf at (length scratch - at) scratch)
+    pub room-for-row : perRow ≤ length (midOf at (length scratch - at) scratch)
     room-for-row =
         let a = p .at-is in
         let r = p .room in
@@ -205,10 +205,10 @@ module _ {m : Member} {fields : List ℕ} {first : ℕ} {old scratch : List ℕ}
         scratch-is : putMid at (length scratch - at) scratch part ≡ over (p .rows ++ rowBy losses then) old
         scratch-is = row-behind (p .rows) (rowBy losses then) old scratch part at (sym (p .rows-are)) (p .written) part-is
 
-        rows-then : length (p .rows ++ rowBy losses then) ≡ at + 4
-        rows-then = rw length-append (ap (λ (n : ℕ). n + 4) (p .rows-are))
+        rows-then : length (p .rows ++ rowBy losses then) ≡ at + perRow
+        rows-then = rw length-append (ap (λ (n : ℕ). n + perRow) (p .rows-are))
 
-        pub turns : Progress m fields first old (putMid at (length scratch - at) scratch part) then end (field + 2) (at + 4)
+        pub turns : Progress m fields first old (putMid at (length scratch - at) scratch part) then end (field + perAge) (at + perRow)
             (number + 1)
         turns =
             let f = p .field-is in

@@ -4,7 +4,8 @@ ghost use Prim.Native.Nat.{_*_, _^_, _≤_, _<_};
 ghost use lib.ListN.{length};
 ghost use Rattle.logarithm.specs.Logarithm.{IsTable};
 ghost use Rattle.fields.specs.Amounts.{over};
-ghost use Rattle.checks.specs.Quantities.{agesOf};
+ghost use Rattle.fields.specs.Quantities.{agesOf};
+ghost use Rattle.checks.specs.Rows.{perRow};
 ghost use Rattle.stages.specs.Bounds.{Bounded, AgesBounded};
 ghost use Rattle.stages.specs.Ages.{agedFrom};
 ghost use Rattle.stages.specs.Intervals.{transferEnd};
@@ -31,7 +32,7 @@ pub enum LastStress {
 
 // A row at the front of a part of the scratch.
 fn write_row(part: &mut [u64], losses: Losses, stress: u64)
-    requires { ⌜ 4 ≤ length (now part) ⌝ }
+    requires { ⌜ perRow ≤ length (now part) ⌝ }
     ensures { λ _. ⌜ now (part .exit) ≡ over (rowBy losses stress) (now (part .entry)) ⌝ }
 {
     part[0] = losses.creep;
@@ -52,7 +53,7 @@ pub fn run_ages(
 ) -> LastStress
     requires { ⌜ (Bounded m) × (AgesBounded (m .«own_weight_moment») (agesOf (m .segments) (m .ages) (now fields))) ⌝ }
     requires { ⌜ (IsTable (now thresholds)) × (transfer ≡ transferEnd m) ⌝ }
-    requires { ⌜ (stress < 2 ^ 28) × (4 * m .ages ≤ length (now scratch)) ⌝ }
+    requires { ⌜ (stress < 2 ^ 28) × (perRow * m .ages ≤ length (now scratch)) ⌝ }
     ensures { λ r. ⌜ RanAges (agedFrom m (startOf m stress) 0 (agesOf (m .segments) (m .ages) (now (fields .entry)))) (m .ages)
         r (now (scratch .exit)) (now (scratch .entry)) ⌝ }
 {

@@ -3,7 +3,8 @@ ghost use mathlib.Core.Path.{_≡_};
 ghost use mathlib.Core.List.{_++_};
 ghost use Prim.Native.Nat.{_*_, _≤_};
 ghost use lib.ListN.{length, take, drop};
-ghost use Rattle.checks.specs.Quantities.{agesOf};
+ghost use Rattle.fields.specs.Quantities.{agesOf};
+ghost use Rattle.checks.specs.Rows.{perRow};
 ghost use Rattle.checks.specs.Readable.{Readable, ReadableIf};
 ghost use Rattle.stages.specs.Bounds.{Bounded, AgesBounded};
 ghost use Rattle.stages.specs.Run.{memberResult, resultOfReading};
@@ -42,7 +43,7 @@ pub fn run_member(
     scratch: &mut [u64],
 ) -> Answer
     requires { ⌜ (Bounded m) × (AgesBounded (m .«own_weight_moment») (agesOf (m .segments) (m .ages) (now fields))) ⌝ }
-    requires { ⌜ (4 * m .ages ≤ length (now report)) × (4 * m .ages ≤ length (now scratch)) ⌝ }
+    requires { ⌜ (perRow * m .ages ≤ length (now report)) × (perRow * m .ages ≤ length (now scratch)) ⌝ }
     ensures { λ r. ⌜ Ran (memberResult m (agesOf (m .segments) (m .ages) (now (fields .entry))))
         r (now (report .exit)) (now (report .entry)) (now (scratch .exit)) (now (scratch .entry)) ⌝ }
 {

@@ -14,10 +14,10 @@ use Rattle.logarithm.specs.Logarithm.{serviceLife}
 use Rattle.member.specs.declared.Member.{Member}
 use Rattle.member.specs.declared.Checked.{Checked}
 use Rattle.member.specs.declared.Checked.the-variants.{Accepted, Refused}
-use Rattle.checks.specs.Quantities.{kindCode, steelCode, ultimateStrength, jackingStress, deflectorLoss, slip}
-use Rattle.checks.specs.Quantities.{tendonLength, cureCode, concreteCode, Es, Eci, Ec, volumeToSurface, area, inertia}
-use Rattle.checks.specs.Quantities.{eccentricity, steelArea, ownWeightMoment, endOfCuring, transfer, wobble, curvature}
-use Rattle.checks.specs.Quantities.{Segment, segmentsOf, Age, agesOf}
+use Rattle.fields.specs.Quantities.{kindCode, steelCode, ultimateStrength, jackingStress, deflectorLoss, slip}
+use Rattle.fields.specs.Quantities.{tendonLength, cureCode, concreteCode, Es, Eci, Ec, volumeToSurface, area, inertia}
+use Rattle.fields.specs.Quantities.{eccentricity, steelArea, ownWeightMoment, endOfCuring, transfer, wobble, curvature}
+use Rattle.fields.specs.Quantities.{Segment, segmentsOf, Age, agesOf}
 use Rattle.checks.specs.Rows.{firstFailing, within, headCodes, segmentCodes, codes, isPretensioned, isMoist, mostMoment}
 use Rattle.checks.specs.Rows.{rangesOfLine1, rangesOfLine2, rangesOfLine3, rangesOfLine4, rangesOfSegments}
 use Rattle.checks.specs.Rows.{rangesOfMoments, ranges, hoursOfAges, hours, duct, mostFriction, buffers, perRow, mostKappa}

@@ -6,10 +6,10 @@ use mathlib.Core.List.{List, [], _∷_}
 use Rattle.fields.specs.Layout.{mostSegments}
 use Rattle.coefficient.specs.declared.clocks.MemberHours.{MemberHours}
 use Rattle.logarithm.specs.Logarithm.{serviceLife}
-use Rattle.checks.specs.Quantities.{kindCode, steelCode, ultimateStrength, jackingStress, deflectorLoss, slip}
-use Rattle.checks.specs.Quantities.{tendonLength, cureCode, concreteCode, Es, Eci, Ec, volumeToSurface, area, inertia}
-use Rattle.checks.specs.Quantities.{eccentricity, steelArea, ownWeightMoment, endOfCuring, transfer, wobble, curvature}
-use Rattle.checks.specs.Quantities.{Segment, segmentsOf, Age, agesOf}
+use Rattle.fields.specs.Quantities.{kindCode, steelCode, ultimateStrength, jackingStress, deflectorLoss, slip}
+use Rattle.fields.specs.Quantities.{tendonLength, cureCode, concreteCode, Es, Eci, Ec, volumeToSurface, area, inertia}
+use Rattle.fields.specs.Quantities.{eccentricity, steelArea, ownWeightMoment, endOfCuring, transfer, wobble, curvature}
+use Rattle.fields.specs.Quantities.{Segment, segmentsOf, Age, agesOf}
 use Rattle.member.specs.Friction.{parabola, bend}
 use Rattle.checks.specs.Rows.{isPretensioned, isMoist, mostMoment, mostFriction, perRow, mostKappa, mostCreepOfKappa}
 use Rattle.member.specs.Member.{kindOf, frictionOf, kappaOf, creepOf}

@@ -4,7 +4,7 @@ use mathlib.Core.Bool.{cond}
 use mathlib.Core.List.{List, [], _∷_}
 use lib.Dec.{eqb}
 use Rattle.tables.specs.Tables.{T}
-use Rattle.checks.specs.Quantities.{Segment}
+use Rattle.fields.specs.Quantities.{Segment}
 
 -- a parabola's code, and a bend's
 abbrev pub parabola : ℕ

@@ -16,10 +16,10 @@ use Rattle.coefficient.specs.declared.codes.Steel.the-variants.{StressRelieved,
 use Rattle.member.specs.declared.Member.{Member}
 use Rattle.member.specs.declared.Checked.{Checked}
 use Rattle.member.specs.declared.Checked.the-variants.{Accepted, Refused}
-use Rattle.checks.specs.Quantities.{kindCode, steelCode, ultimateStrength, jackingStress, deflectorLoss, slip}
-use Rattle.checks.specs.Quantities.{tendonLength, cureCode, concreteCode, Es, Eci, Ec, volumeToSurface, area, inertia}
-use Rattle.checks.specs.Quantities.{eccentricity, steelArea, ownWeightMoment, endOfCuring, transfer, wobble, curvature}
-use Rattle.checks.specs.Quantities.{segmentsOf}
+use Rattle.fields.specs.Quantities.{kindCode, steelCode, ultimateStrength, jackingStress, deflectorLoss, slip}
+use Rattle.fields.specs.Quantities.{tendonLength, cureCode, concreteCode, Es, Eci, Ec, volumeToSurface, area, inertia}
+use Rattle.fields.specs.Quantities.{eccentricity, steelArea, ownWeightMoment, endOfCuring, transfer, wobble, curvature}
+use Rattle.fields.specs.Quantities.{segmentsOf}
 use Rattle.member.specs.Friction.{pathFriction}
 use Rattle.member.specs.Constants.{kappa, wholeCreep, wholeShrinkage}
 use Rattle.checks.specs.Rows.{firstFailing, codes, ranges, hours, duct, isPretensioned, buffers, mostKappa}

@@ -1,7 +1,7 @@
 // X, the friction of a path.
 ghost use mathlib.Core.Path.{_≡_};
 ghost use Prim.Native.Nat.{_≤_};
-ghost use Rattle.checks.specs.Quantities.{wobble, curvature};
+ghost use Rattle.fields.specs.Quantities.{wobble, curvature};
 ghost use Rattle.member.specs.Friction.{wobblePart, curvaturePart};
 ghost use Rattle.checks.specs.Parts.{segment};
 ghost use Rattle.member.specs.Facts.{SegmentFits, PathFits, mostPart};

@@ -10,7 +10,7 @@ use Rattle.coefficient.specs.Coefficients.{scf, ssf, mcf, ucr, ush, creepShare,
 use Rattle.fields.specs.Amounts.{numbersIn}
 use Rattle.line.specs.Line.{digitsOf, spacesIn}
 use Rattle.card.specs.Card.{cardOutcome}
-use Rattle.checks.specs.Quantities.{segmentsFrom, agesFrom}
+use Rattle.fields.specs.Quantities.{segmentsFrom, agesFrom}
 use Rattle.member.specs.Friction.{pathFriction}
 use Rattle.checks.specs.Rows.{firstFailing, segmentCodes, rangesOfSegments, rangesOfMoments, hoursOfAges}
 use Rattle.member.specs.Member.{checkedOf}

@@ -16,7 +16,7 @@ use Rattle.fields.specs.Layout.{columns}
 use Rattle.line.specs.Line.{space, lineFeed}
 use Rattle.card.specs.Card.{cardOutcome}
 use Rattle.fields.specs.Refusals.{number, place}
-use Rattle.checks.specs.Quantities.{Segment, Age, agesOf}
+use Rattle.fields.specs.Quantities.{Segment, Age, agesOf}
 use Rattle.member.specs.Friction.{pathFriction, parabola}
 use Rattle.member.specs.Member.{frictionOf}
 use Rattle.stages.specs.Run.{Result, reported, refused}

@@ -5,7 +5,7 @@ use Rattle.logarithm.specs.Logarithm.{serviceLife}
 use Rattle.coefficient.specs.Clocks.{sinceTransfer, sinceCuring}
 use Rattle.coefficient.specs.Coefficients.{creepShare, shrinkageShare}
 use Rattle.member.specs.declared.Member.{Member}
-use Rattle.checks.specs.Quantities.{Age}
+use Rattle.fields.specs.Quantities.{Age}
 use Rattle.steps.specs.Steps.{creepLoss, shrinkageLoss, relaxationLoss}
 use Rattle.stages.specs.declared.Stress.{Stress}
 use Rattle.stages.specs.declared.Stress.the-variants.{Left, Gone}

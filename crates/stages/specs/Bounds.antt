@@ -4,7 +4,7 @@ use Prim.Native.Nat.{ℕ, _+_, _^_, _≤_, _<_}
 use mathlib.Core.List.{List, [], _∷_}
 use Rattle.logarithm.specs.Logarithm.{serviceLife}
 use Rattle.member.specs.declared.Member.{Member}
-use Rattle.checks.specs.Quantities.{Age}
+use Rattle.fields.specs.Quantities.{Age}
 use Rattle.checks.specs.Rows.{mostMoment, mostKappa}
 use Rattle.fields.specs.Layout.{mostSegments, mostAges}
 

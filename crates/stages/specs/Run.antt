@@ -8,7 +8,7 @@ use Rattle.fields.specs.declared.refusal.Reading.the-variants.{Fields, Not}
 use Rattle.member.specs.declared.Member.{Member}
 use Rattle.member.specs.declared.Checked.{Checked}
 use Rattle.member.specs.declared.Checked.the-variants.{Accepted, Refused}
-use Rattle.checks.specs.Quantities.{Age, agesOf}
+use Rattle.fields.specs.Quantities.{Age, agesOf}
 use Rattle.member.specs.Member.{checkedOf}
 use Rattle.stages.specs.declared.Stress.{Stress}
 use Rattle.stages.specs.declared.Stress.the-variants.{Left, Gone}

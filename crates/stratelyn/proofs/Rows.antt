@@ -15,7 +15,7 @@ use Rattle.fields.specs.Layout.{mostAges}
 use Rattle.member.specs.declared.Member.{Member}
 use Rattle.member.specs.declared.Checked.{Checked}
 use Rattle.member.specs.declared.Checked.the-variants.{Accepted, Refused}
-use Rattle.checks.specs.Quantities.{Age, agesFrom, agesOf}
+use Rattle.fields.specs.Quantities.{Age, agesFrom, agesOf}
 use Rattle.checks.specs.Rows.{firstFailing, perRow}
 use Rattle.member.specs.Member.{checkedOf}
 use Rattle.member.proofs.Laws.{accepted}

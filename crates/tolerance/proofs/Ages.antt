@@ -15,7 +15,7 @@ use Rattle.logarithm.specs.Logarithm.{logarithm, serviceLife}
 use Rattle.coefficient.specs.Clocks.{sinceTransfer, sinceCuring, sinceTensioning}
 use Rattle.coefficient.specs.Coefficients.{creepShare, shrinkageShare}
 use Rattle.coefficient.proofs.Laws.{since-tensioning-least, since-tensioning-most}
-use Rattle.checks.specs.Quantities.{Age, ultimateStrength}
+use Rattle.fields.specs.Quantities.{Age, ultimateStrength}
 use Rattle.member.specs.Member.{memberOf, steelOf, kappaOf, creepOf}
 use Rattle.member.specs.Facts.{RisingFrom, rises}
 use Rattle.stages.specs.Ages.{Start, creepIn, shrinkageIn, relaxationIn, lossesIn}

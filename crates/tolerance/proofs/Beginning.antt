@@ -21,8 +21,8 @@ use Rattle.tables.specs.Tables.{T}
 use Rattle.coefficient.proofs.Laws.{since-tensioning-least, since-tensioning-most}
 use Rattle.ticks.specs.Doubles.{ticksPerUnit}
 use Rattle.fields.specs.Layout.{headFields, perSegment}
-use Rattle.checks.specs.Quantities.{Segment, segmentsFrom, segmentsOf, ultimateStrength, deflectorLoss, slip, tendonLength}
-use Rattle.checks.specs.Quantities.{Es, Eci, ownWeightMoment, transfer, wobble, curvature}
+use Rattle.fields.specs.Quantities.{Segment, segmentsFrom, segmentsOf, ultimateStrength, deflectorLoss, slip, tendonLength}
+use Rattle.fields.specs.Quantities.{Es, Eci, ownWeightMoment, transfer, wobble, curvature}
 use Rattle.member.specs.Member.{memberOf, kindOf, steelOf, frictionOf, kappaOf}
 use Rattle.member.specs.Facts.{SegmentsFit, no-segment, segment-fits, Facts}
 use Rattle.steps.specs.Steps.{frictionLoss as ticksFrictionLoss, slipLoss as ticksSlipLoss}

@@ -9,7 +9,7 @@ use Rattle.fraction.specs.Fraction.{whole}
 use Rattle.coefficient.specs.Coefficients.{scf, ssf, mcf, ucr, ush}
 use Rattle.coefficient.proofs.Laws.{scf-range, ssf-range, mcf-range, ucr-range, ush-range}
 use Rattle.ticks.specs.Doubles.{ticksPerUnit}
-use Rattle.checks.specs.Quantities.{area, inertia, eccentricity, steelArea, Ec, volumeToSurface, transfer, ultimateStrength}
+use Rattle.fields.specs.Quantities.{area, inertia, eccentricity, steelArea, Ec, volumeToSurface, transfer, ultimateStrength}
 use Rattle.member.specs.Member.{cureOf, concreteOf, kappaOf, creepOf, shrinkageOf}
 use Rattle.checks.specs.Rows.{mostKappa, mostCreepOfKappa}
 use Rattle.member.specs.Facts.{HeadFits, Facts}

@@ -13,7 +13,7 @@ use Rattle.fraction.specs.Fraction.{Fraction}
 use Rattle.fraction.proofs.Floors.{whole-order}
 use Rattle.fraction.proofs.Distances.{within-weaken}
 use Rattle.fields.specs.Layout.{mostSegments, mostAges, headFields, perSegment, perAge}
-use Rattle.checks.specs.Quantities.{Age, agesFrom, segmentsOf, agesOf, transfer, ownWeightMoment, wobble, curvature}
+use Rattle.fields.specs.Quantities.{Age, agesFrom, segmentsOf, agesOf, transfer, ownWeightMoment, wobble, curvature}
 use Rattle.member.specs.Friction.{pathFriction as ticksFriction}
 use Rattle.member.specs.Member.{memberOf}
 use Rattle.member.specs.Facts.{Facts}

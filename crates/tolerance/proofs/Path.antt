@@ -18,7 +18,7 @@ use Rattle.fraction.proofs.Floors.{whole-order, whole-not-negative, whole-diffe
 use Rattle.fraction.proofs.Certificate.{num, _⊞_, _⊟_, _⊠_, _⊑_, _≐_, _⊢_, follows, identity}
 use Rattle.fraction.proofs.Distances.{within-refl, within-weaken, within-resp-≈, within-difference}
 use Rattle.tables.specs.Tables.{T}
-use Rattle.checks.specs.Quantities.{Segment}
+use Rattle.fields.specs.Quantities.{Segment}
 use Rattle.member.specs.Friction.{parabola, bend, million, pathFriction as ticksFriction}
 use Rattle.member.specs.Friction.{wobblePart as ticksWobble, curvaturePart as ticksCurvature}
 use Rattle.steps.specs.Steps.{frictionLoss as ticksFrictionLoss, slipLoss as ticksSlipLoss}

@@ -11,7 +11,7 @@ use lib.Dec.{leb}
 use lib.ListN.{length, getD, drop}
 use borrow.Author.Tests.{leb-true}
 use Rattle.member.specs.declared.Member.{Member}
-use Rattle.checks.specs.Quantities.{Age}
+use Rattle.fields.specs.Quantities.{Age}
 use Rattle.checks.specs.Rows.{perRow}
 use Rattle.stages.specs.declared.Stress.{Stress}
 use Rattle.stages.specs.declared.Stress.the-variants.{Left, Gone}

@@ -9,7 +9,7 @@ use Rattle.tables.specs.declared.Row.{Row}
 use Rattle.tables.specs.Lines.{hundred, at, hundredths, weighed}
 use Rattle.tables.specs.Tables.{T}
 use Rattle.coefficient.specs.Coefficients.{scf, ssf, mcf, ucr, ush}
-use Rattle.checks.specs.Quantities.{Segment, area, inertia, eccentricity, steelArea, Ec, volumeToSurface, transfer}
+use Rattle.fields.specs.Quantities.{Segment, area, inertia, eccentricity, steelArea, Ec, volumeToSurface, transfer}
 use Rattle.member.specs.Friction.{parabola, bend, million}
 use Rattle.member.specs.Member.{cureOf, concreteOf}
 use Rattle.tolerance.specs.Quotients.{_÷_}

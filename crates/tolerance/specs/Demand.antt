@@ -5,7 +5,7 @@ use mathlib.Core.List.{List, [], _∷_}
 use lib.ListN.{length, getD, drop}
 use Rattle.fraction.specs.Fraction.{Fraction, whole, Within}
 use Rattle.ticks.specs.Doubles.{ticksPerUnit}
-use Rattle.checks.specs.Quantities.{segmentsOf}
+use Rattle.fields.specs.Quantities.{segmentsOf}
 use Rattle.checks.specs.Rows.{perRow}
 use Rattle.stages.specs.declared.BeforeAges.{BeforeAges}
 use Rattle.tolerance.specs.Logarithms.{Admissible, tableLogarithm}

@@ -11,9 +11,9 @@ use Rattle.coefficient.specs.declared.codes.Kind.the-variants.{Pretensioned, Po
 use Rattle.coefficient.specs.declared.clocks.MemberHours.{MemberHours}
 use Rattle.coefficient.specs.Clocks.{sinceTransfer, sinceCuring, sinceTensioning}
 use Rattle.tables.specs.Tables.{creepShareRows, shrinkageShareRows}
-use Rattle.checks.specs.Quantities.{Segment, Age, segmentsOf, agesOf, jackingStress, deflectorLoss, slip, tendonLength}
-use Rattle.checks.specs.Quantities.{ultimateStrength, Es, Eci, eccentricity, inertia, ownWeightMoment, endOfCuring, transfer}
-use Rattle.checks.specs.Quantities.{wobble, curvature}
+use Rattle.fields.specs.Quantities.{Segment, Age, segmentsOf, agesOf, jackingStress, deflectorLoss, slip, tendonLength}
+use Rattle.fields.specs.Quantities.{ultimateStrength, Es, Eci, eccentricity, inertia, ownWeightMoment, endOfCuring, transfer}
+use Rattle.fields.specs.Quantities.{wobble, curvature}
 use Rattle.checks.specs.Rows.{perRow}
 use Rattle.member.specs.Member.{kindOf, steelOf}
 use Rattle.member.specs.Friction.{pathFriction as ticksFriction}

@@ -9,7 +9,7 @@ use borrow.Author.Needs.{needs}
 use lib.Dec.{leb, ltb}
 use Rattle.fields.specs.Layout.{firstAgeField}
 use Rattle.logarithm.specs.Logarithm.{serviceLife}
-use Rattle.checks.specs.Quantities.{transfer, agesOf}
+use Rattle.fields.specs.Quantities.{transfer, agesOf}
 use Rattle.checks.specs.Rows.{Check, at, firstFailing, hoursOfAges}
 use Rattle.checks.proofs.Rows.{begins, next-at, Turn, stops, goes-on}
 use Rattle.checks.proofs.Items.{segmentPlace, agePlace, leftAges, ageAt, all-ages, next-age, no-age}

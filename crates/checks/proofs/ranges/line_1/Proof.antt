@@ -5,7 +5,7 @@ use mathlib.Core.Bool.{Bool, _&&_}
 use native.Mathlib.Omega.{arith}
 use borrow.Author.Needs.{needs}
 use lib.Dec.{leb}
-use Rattle.checks.specs.Quantities.{deflectorLoss}
+use Rattle.fields.specs.Quantities.{deflectorLoss}
 use Rattle.checks.proofs.Rows.{begins, next}
 use Rattle.checks.proofs.ranges.line_1.Statement.{statement}
 use Rattle.checks.proofs.ranges.line_1.Tie as tie

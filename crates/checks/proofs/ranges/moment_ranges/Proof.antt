@@ -8,7 +8,7 @@ use borrow.Author.Tests.{leb-true}
 use borrow.Author.Needs.{needs}
 use lib.Dec.{leb}
 use Rattle.fields.specs.Layout.{firstAgeField}
-use Rattle.checks.specs.Quantities.{ownWeightMoment, agesOf}
+use Rattle.fields.specs.Quantities.{ownWeightMoment, agesOf}
 use Rattle.checks.specs.Rows.{Check, at, firstFailing, mostMoment, rangesOfMoments}
 use Rattle.checks.proofs.Rows.{begins, next-at, Turn, stops, goes-on, passed}
 use Rattle.checks.proofs.Items.{segmentPlace, agePlace, leftAges, ageAt, all-ages, next-age, no-age}

@@ -9,7 +9,7 @@ use Rattle.losses.proofs.run.run_member.Statement.{statement}
 use Rattle.losses.proofs.run.run_member.Tie as tie
 use Rattle.stages.specs.BeforeAges.{begunOf}
 use Rattle.stages.specs.declared.Begun.the-variants.{Begins}
-use Rattle.checks.specs.Quantities.{agesOf}
+use Rattle.fields.specs.Quantities.{agesOf}
 
 -- the start of the run, of which the losses before the ages are told
 abbrev start : tie.After-known-told → tie.Start

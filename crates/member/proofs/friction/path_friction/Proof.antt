@@ -6,7 +6,7 @@ use Prim.Native.Nat.{ℕ, _+_, _-_, _*_, _≤_, _<_}
 use native.Mathlib.Nat.{zero-add}
 use native.Mathlib.Omega.{arith}
 use Rattle.fields.specs.Layout.{mostSegments}
-use Rattle.checks.specs.Quantities.{Segment, wobble, curvature}
+use Rattle.fields.specs.Quantities.{Segment, wobble, curvature}
 use Rattle.member.specs.Friction.{wobblePart, curvaturePart, pathFriction}
 use Rattle.member.specs.Member.{frictionOf}
 use Rattle.member.specs.Facts.{SegmentFits, SegmentsFit, segment-fits, PathFits, mostPart}
