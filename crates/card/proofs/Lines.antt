@@ -1,5 +1,4 @@
--- Lines one after the other: groups of them chain, and a buffer written over from the end of what is done on is the whole written
--- over. Assumes nothing.
+-- Lines one after the other: groups of them chain. Assumes nothing.
 use mathlib.Core.Path.{_≡_, refl, sym, ap, _∙_}
 use mathlib.Core.Bool.{Bool, true, false, and-eq-true-iff}
 use mathlib.Core.List.{List, [], _∷_, _++_, append-assoc, append-nil}
@@ -8,36 +7,16 @@ use native.Mathlib.Nat.{zero-add, add-zero, add-assoc}
 use native.Mathlib.Numerals.{add-one}
 use native.Mathlib.Omega.{arith}
 use lib.Dec.{leb, eqb}
-use lib.ListN.{length, getD, take, drop, length-append, length-drop, drop-of-length-le}
-use lib.Seq.{drop-drop, take-suc, take-append-seam, drop-append-seam, length-take-le, take-all, split-at}
+use lib.ListN.{length, getD, take, drop, length-append, length-drop}
+use lib.Seq.{drop-drop, take-suc, length-take-le, take-all, split-at}
 use borrow.Author.Tests.{leb-true, eqb-true}
 use borrow.Rule.Slice.PartMut.{midOf, putMid}
 use Rattle.fields.specs.Amounts.{numbersIn, allRead, over}
 use Rattle.fields.specs.Layout.{columns}
 use Rattle.line.specs.Line.{lineFeed, lineLength, amountsOf, isShaped, isRight, lineNumbers}
 use Rattle.card.specs.Card.{Lines, readLines, fieldsOn}
-use Rattle.line.proofs.Amounts.{amounts-length, tail, Line}
-
--- ---- buffers
-
--- a part from the end of what is done on, written over, is the whole written over
-over-part : (done more old : List ℕ) (at : ℕ) → at ≡ length done
-    → take at (over done old) ++ over more (drop at (over done old)) ≡ over (done ++ more) old
-over-part done more old at e = rw (e, take-append-seam, drop-append-seam, drop-drop, length-append, append-assoc)
-
-pub length-over : (new old : List ℕ) → length new ≤ length old → length (over new old) ≡ length old
-length-over new old h = simp (length-append, length-drop) (omega arith)
-
--- the same where the part is lent as `&mut buffer[at..]`
-pub lent : (done more old buffer part : List ℕ) (at : ℕ) → at ≡ length done → buffer ≡ over done old
-    → part ≡ over more (midOf at (length buffer - at) buffer)
-    → putMid at (length buffer - at) buffer part ≡ over (done ++ more) old
-lent done more old buffer part at e is written =
-    ap (λ (l : List ℕ). take at buffer ++ (part ++ l))
-    (drop-of-length-le (drop at buffer) {i = length buffer - at} (simp length-drop (omega arith)))
-    ∙ ap (λ (l : List ℕ). take at buffer ++ l) (append-nil part ∙ written ∙ ap (λ (l : List ℕ). over more l) (tail buffer at))
-    ∙ ap (λ (l : List ℕ). take at l ++ over more (drop at l)) is
-    ∙ over-part done more old at e
+use Rattle.fields.proofs.Buffers.{length-over, tail, written-behind}
+use Rattle.line.proofs.Amounts.{amounts-length, Line}
 
 -- ---- a line that is right
 
@@ -260,7 +239,7 @@ module _ {part counts : List ℕ} {line field : ℕ} {old now : List ℕ} {done 
 
       buffer-is : buffer ≡ over (passed .numbers ++ row) old
       buffer-is =
-          lent (passed .numbers) row old now after read (f .read-is ∙ sym (good .read)) (f .is)
+          written-behind (passed .numbers) row old now after read (f .read-is ∙ sym (good .read)) (f .is)
           (written .1 ∙ rw (tail part at))
 
       pub next-line : r ≡ true

@@ -19,8 +19,8 @@ use Rattle.fields.specs.Amounts.{over, Outcome, refused, accepted}
 use Rattle.line.specs.Line.{lineLength}
 use Rattle.card.specs.Card.{Lines, readLines, fieldsOn, headLines, head, firstSegmentLine, lineBehind}
 use Rattle.card.specs.Card.{announcedOf, segmentsIn, agesIn, announced, firstWrong, cardOutcome}
-use Rattle.line.proofs.Amounts.{tail}
-use Rattle.card.proofs.Lines.{lent, length-over, bytesOn, Right, lines-right}
+use Rattle.fields.proofs.Buffers.{length-over, tail, written-behind}
+use Rattle.card.proofs.Lines.{bytesOn, Right, lines-right}
 use Rattle.card.proofs.Lines.{andThen, readLines-append, readLines-stops, LinesRead}
 
 -- ---- lines of the same count
@@ -136,7 +136,7 @@ module _ {part old : List ℕ} {segments ages wrong : ℕ} {buffer : List ℕ}
 
       written-is : written ≡ over (announcedOf segments ages part .numbers) old
       written-is =
-          lent (ofSegments .numbers) (ofAges .numbers) old buffer after (segmentNumbers segments)
+          written-behind (ofSegments .numbers) (ofAges .numbers) old buffer after (segmentNumbers segments)
           (sym numbers-long) (segments-read .1) (ages-read .1)
           ∙ ap (λ (l : Lines). over (l .numbers) old) (sym all-is)
 
@@ -303,7 +303,7 @@ module _ {card old buffer : List ℕ} (first : CountsRead card old buffer) {wron
 
   whole-is : whole ≡ over all old
   whole-is =
-      lent (head card .numbers) (announcedOf counted-segments counted-ages (drop headBytes card) .numbers) old buffer after
+      written-behind (head card .numbers) (announcedOf counted-segments counted-ages (drop headBytes card) .numbers) old buffer after
       headFields
       (sym (good-head (first .lines) (first .ok) .read)) (first .lines .read .1) (behind .1)
       ∙ ap (λ (l : Lines). over (head card .numbers ++ l .numbers) old) (sym announced-is)

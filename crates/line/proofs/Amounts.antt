@@ -8,12 +8,13 @@ use native.Mathlib.Nat.{zero-add, add-zero, suc-add}
 use native.Mathlib.Numerals.{add-one}
 use native.Mathlib.Omega.{arith}
 use lib.ListN.{length, getD, take, drop, set, length-append, length-drop, length-set}
-use lib.Seq.{take-all, drop-drop, drop-cons, set-at}
+use lib.Seq.{drop-drop, drop-cons, set-at}
 use borrow.Author.Tests.{le-leb, lt-leb, le-ltb, eq-eqb, ne-eqb}
 use Rattle.ticks.specs.declared.Amount.{Amount}
 use Rattle.ticks.specs.declared.Amount.the-variants.{Of, Refused}
 use Rattle.line.specs.declared.Field.{Field}
 use Rattle.fields.specs.Amounts.{numbersIn, over}
+use Rattle.fields.proofs.Buffers.{tail}
 use Rattle.fields.specs.Layout.{columns}
 use Rattle.line.specs.Line.{fieldOf, fieldAt, amountOf, amountsOf}
 use Rattle.line.specs.Line.{lineFeed, lineLength, isShaped, isRight, lineNumbers}
@@ -50,10 +51,6 @@ amounts-append (suc a) b field bytes =
     ∙ ap (λ (k : ℕ). amountsOf a (suc field) (drop columns bytes) ++ amountsOf b k (drop (columns * suc a) bytes)) next))
 
 -- ---- a line
-
--- what `&part[at..]` holds
-pub tail : (part : List ℕ) (at : ℕ) → take (length part - at) (drop at part) ≡ drop at part
-tail part at = take-all (length part - at) (drop at part) (simp length-drop (omega arith))
 
 -- the amount of the field at a column
 pub amount-at : (part : List ℕ) (field at : ℕ) (found : Field) (amount : Amount)

@@ -11,6 +11,7 @@ use lib.Seq.{getD-drop, drop-drop}
 use borrow.Rule.Slice.PartMut.{midOf, putMid}
 use Rattle.fields.specs.Layout.{headFields, perSegment, perAge}
 use Rattle.fields.specs.Amounts.{over}
+use Rattle.fields.proofs.Buffers.{length-over, tail, written-behind}
 use Rattle.member.specs.declared.Member.{Member}
 use Rattle.fields.specs.Quantities.{Age, agesFrom, agesOf}
 use Rattle.checks.specs.Rows.{perRow}
@@ -28,7 +29,6 @@ use Rattle.stages.specs.Intervals.{endAt, transferEnd, lossesBetween, passing, 
 use Rattle.losses.specs.RunAges.{rowBy, RanAges}
 use Rattle.stages.specs.Run.{startOf}
 use Rattle.stages.proofs.Leaving.{left-fits}
-use Rattle.losses.proofs.Lists.{length-over, lent, row-behind}
 
 -- the age that stands at a field
 abbrev pub ageAt : List ℕ → ℕ → Age
@@ -145,7 +145,7 @@ module _ {m : Member} {fields : List ℕ} {first : ℕ} {old scratch : List ℕ}
         let a = p .at-is in
         let r = p .room in
         let k = p .kept in
-        rw lent (simp length-drop (omega arith))
+        rw (tail scratch at) (simp length-drop (omega arith))
 
     module _ (end : End) (end-is : end ≡ endAt m (start .moments + getD fields (field + 1) 0) (getD fields field 0))
         (result : Passed) (result-is : result ≡ passed m stress start end) where
@@ -203,7 +203,7 @@ module _ {m : Member} {fields : List ℕ} {first : ℕ} {old scratch : List ℕ}
         so-far-onward = rw (row-is, append-assoc) (rw (onwards .1) at so-far-with-age)
 
         scratch-is : putMid at (length scratch - at) scratch part ≡ over (p .rows ++ rowBy losses then) old
-        scratch-is = row-behind (p .rows) (rowBy losses then) old scratch part at (sym (p .rows-are)) (p .written) part-is
+        scratch-is = written-behind (p .rows) (rowBy losses then) old scratch part at (sym (p .rows-are)) (p .written) part-is
 
         rows-then : length (p .rows ++ rowBy losses then) ≡ at + perRow
         rows-then = rw length-append (ap (λ (n : ℕ). n + perRow) (p .rows-are))

@@ -12,7 +12,7 @@ use borrow.Rule.Slice.PartMut.{midOf, putMid}
 use Rattle.ticks.specs.Numbers.{numberOf, bytesOf, bytesPerNumber}
 use Rattle.ticks.proofs.Laws.{bytes-length}
 use Rattle.fields.specs.Amounts.{over}
-use Rattle.numbers.proofs.Lists.{over-length, lent, behind}
+use Rattle.fields.proofs.Buffers.{length-over, tail, written-behind}
 use Rattle.numbers.specs.Numbers.{bytesOfNumbers, written, numbersFrom}
 use Rattle.numbers.specs.Parts.{standsFor}
 
@@ -60,12 +60,12 @@ module _ (numbers before buffer : List ℕ) (done : ℕ) (room : bytesPerNumber 
       bytes-of-numbers-length (take done numbers)
       ∙ ap (λ (n : ℕ). bytesPerNumber * n) (length-take-le done numbers (omega arith)) in
       let row-is : length row ≡ bytesPerNumber = bytes-length bytesPerNumber (getD numbers done 0) in
-      let left-is : length left ≡ length buffer - at = ap length (lent at buffer) ∙ length-drop at buffer in
+      let left-is : length left ≡ length buffer - at = ap length (tail buffer at) ∙ length-drop at buffer in
       let part-is : part ≡ over row left =
       e ∙ ap (λ (l : List ℕ). l ++ drop bytesPerNumber left) (take-all (length left) row (omega arith))
       ∙ ap (λ (n : ℕ). row ++ drop n left) (sym row-is) in
       let is : putMid at (length buffer - at) buffer part ≡ written (take (done + 1) numbers) before =
-      behind front row before buffer part at front-is (stored .is) part-is
+      written-behind front row before buffer part at (sym front-is) (stored .is) part-is
       ∙ ap (λ (l : List ℕ). over l before) (sym (bytes-behind (take done numbers) (getD numbers done 0)))
       ∙ ap (λ (l : List ℕ). written l before) (sym (rw (add-one, take-suc numbers done 0))) in
       let more : length (bytesOfNumbers (take (done + 1) numbers)) ≡ bytesPerNumber * (done + 1) =
@@ -73,7 +73,7 @@ module _ (numbers before buffer : List ℕ) (done : ℕ) (room : bytesPerNumber 
       ∙ ap (λ (n : ℕ). bytesPerNumber * n) (length-take-le (done + 1) numbers (omega arith)) in
       record {
         within = omega arith;
-        same = ap length is ∙ over-length (bytesOfNumbers (take (done + 1) numbers)) before (omega arith);
+        same = ap length is ∙ length-over (bytesOfNumbers (take (done + 1) numbers)) before (omega arith);
         is = is;
       }
 

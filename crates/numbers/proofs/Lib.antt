@@ -1,4 +1,3 @@
 pub mod ListBytes
-mod Lists
 mod Bytes
 mod Doubles

@@ -8,7 +8,7 @@ use lib.Seq.{length-take-le}
 use denote.Ref.{now}
 use borrow.Author.Needs.{needs}
 use Rattle.fields.specs.Layout.{mostSegments, mostAges, perSegment, perAge}
-use Rattle.line.proofs.Amounts.{tail}
+use Rattle.fields.proofs.Buffers.{tail}
 use Rattle.card.proofs.Outcome.{SegmentsRead, AgesRead, fields-taken}
 use Rattle.card.proofs.Outcome.{segment-wrong, segments-long, buffer-long, age-wrong, bytes-behind, all-announced}
 use Rattle.card.proofs.read_announced.Statement.{statement}

@@ -6,7 +6,7 @@ use lib.ListN.{length, length-drop}
 use denote.Ref.{now}
 use borrow.Author.Tests.{not-true, not-false}
 use borrow.Author.Needs.{needs}
-use Rattle.line.proofs.Amounts.{tail}
+use Rattle.fields.proofs.Buffers.{tail}
 use Rattle.card.proofs.Lines.{LinesFront, no-lines, all-lines, fits, next-line, wrong-line}
 use Rattle.card.proofs.read_lines.Statement.{statement}
 use Rattle.card.proofs.read_lines.Tie as tie
