@@ -1,7 +1,7 @@
 -- What an accepted card has: counts within their limits, a number for each field, the counts in fields 23 and 24, and numbers of
 -- at most 14 digits. The first four follow case by case from the outcome's tests, the last by induction over lines. Assumes nothing.
 use mathlib.Core.Path.{_≡_, refl, _∙_}
-use mathlib.Core.Bool.{Bool, true, false, _||_, cond}
+use mathlib.Core.Bool.{Bool, true, false, cond}
 use mathlib.Core.List.{List, [], _∷_, _++_}
 use Prim.Native.Nat.{ℕ, suc, _+_, _-_, _*_}
 use native.Mathlib.Omega.{arith}
@@ -11,7 +11,7 @@ use borrow.Author.Tests.{ltb-false}
 use Rattle.fields.specs.declared.refusal.Refusal.{Refusal}
 use Rattle.fields.specs.declared.refusal.Refusal.the-variants.{Shape, Ranges}
 use Rattle.fields.specs.declared.refusal.Reading.the-variants.{Fields, Not}
-use Rattle.fields.specs.Layout.{segmentsField, agesField, mostSegments, leastAges, mostAges}
+use Rattle.fields.specs.Layout.{segmentsField, agesField, mostSegments}
 use Rattle.fields.specs.Layout.{agesOutOfRange, perSegment, perAge, headFields, firstSegmentField}
 use Rattle.fields.specs.Amounts.{Outcome, refused, accepted}
 use Rattle.line.specs.Line.{isRight}
@@ -19,6 +19,7 @@ use Rattle.line.specs.Line.{lineLength, lineNumbers}
 use Rattle.card.specs.Card.{Lines, readLines, headLines, head, firstSegmentLine, announcedLines}
 use Rattle.card.specs.Card.{segmentsIn, agesIn, announced, lineBehind, firstWrong, cardOutcome}
 use Rattle.fields.proofs.Accepted.{Accepted}
+use Rattle.fields.proofs.Laws.{ages-in-range}
 use Rattle.card.proofs.Lines.{Right, lines-right, fields-append}
 use Rattle.card.proofs.Outcome.{fields-replicate}
 use Rattle.line.proofs.Laws.{Below, none-below, append-below, line-below}
@@ -89,14 +90,6 @@ card-below card =
 
 -- ---- an accepted card
 
-or-left : (a b : Bool) → (a || b) ≡ false → a ≡ false
-or-left true b h = h
-or-left false b h = refl
-
-or-right : (a b : Bool) → (a || b) ≡ false → b ≡ false
-or-right true b h = absurd (let z : _≡_ {A = ℕ} 0 1 = cc in omega arith)
-or-right false b h = h
-
 no-wrong-line : (lines : Lines) (behind : ℕ) → ltb 0 (firstWrong lines behind) ≡ false → lines .wrong ≡ 0
 no-wrong-line lines behind e = by-wrong (ltb 0 (lines .wrong)) refl
   where
@@ -138,8 +131,7 @@ card-accepted card segments ages =
         let more-count = announced-count (inSegments card) (inAges card) (announced card) (head card .rest) more-right in
         let whole = length-append numbers more in
         let few = ltb-false mostSegments (inSegments card) s in
-        let enough = ltb-false (inAges card) leastAges (or-left (ltb (inAges card) leastAges) (ltb mostAges (inAges card)) a) in
-        let not-many = ltb-false mostAges (inAges card) (or-right (ltb (inAges card) leastAges) (ltb mostAges (inAges card)) a) in
+        let counted = ages-in-range (inAges card) a in
         record {
           few-segments = omega arith;
           enough-ages = omega arith;

@@ -15,20 +15,12 @@ use Rattle.ticks.specs.declared.Amount.the-variants.{Of, Refused}
 use Rattle.line.specs.declared.Field.{Field}
 use Rattle.fields.specs.Amounts.{numbersIn, over}
 use Rattle.fields.proofs.Buffers.{tail}
+use Rattle.fields.proofs.Laws.{numbers-append}
 use Rattle.fields.specs.Layout.{columns}
 use Rattle.line.specs.Line.{fieldOf, fieldAt, amountOf, amountsOf}
 use Rattle.line.specs.Line.{lineFeed, lineLength, isShaped, isRight, lineNumbers}
 
 -- ---- amounts
-
-pub numbers-append : (xs ys : List Amount) → length (numbersIn xs) ≡ length xs
-    → numbersIn (xs ++ ys) ≡ numbersIn xs ++ numbersIn ys
-unfolding numbersIn
-numbers-append [] ys h = refl
-numbers-append (Of n ∷ xs) ys h =
-    let rest : length (numbersIn xs) ≡ length xs = omega arith in
-    ap (λ (l : List ℕ). n ∷ l) (numbers-append xs ys rest)
-numbers-append (Refused ∷ xs) ys h = absurd (omega arith)
 
 pub amounts-length : (count field : ℕ) (bytes : List ℕ) → length (amountsOf count field bytes) ≡ count
 unfolding amountsOf

@@ -2,7 +2,7 @@
 -- definition computes once each test is known; the other way round, each test is known since no refusal is a pair of counts.
 -- Assumes nothing.
 use mathlib.Core.Path.{_≡_, refl}
-use mathlib.Core.Bool.{Bool, true, false, _||_, cond}
+use mathlib.Core.Bool.{Bool, true, false, cond}
 use mathlib.Core.List.{List}
 use Prim.Native.Nat.{ℕ, _≤_, _<_}
 use native.Mathlib.Omega.{arith}
@@ -16,8 +16,9 @@ use Rattle.fields.specs.declared.refusal.Reading.{Reading}
 use Rattle.fields.specs.declared.refusal.Reading.the-variants.{Fields, Not}
 use Rattle.fields.specs.declared.refusal.Refusal.{Refusal}
 use Rattle.fields.specs.declared.refusal.Refusal.the-variants.{Shape, Doubles, Ranges}
-use Rattle.fields.specs.Layout.{segmentsField, agesField, mostSegments, leastAges, mostAges, agesOutOfRange}
+use Rattle.fields.specs.Layout.{segmentsField, agesField, mostSegments, leastAges, mostAges}
 use Rattle.fields.specs.Layout.{headFields, fieldsIn}
+use Rattle.fields.proofs.Laws.{ages-in-range}
 use Rattle.list.specs.Lists.{withCount, countIn, countsIn}
 
 -- ---- the ways out
@@ -122,15 +123,6 @@ shape-right : (b : Bool) (segments ages : ℕ) {s n : ℕ} → cond b (Fields se
 shape-right true segments ages e = (refl, (cc, cc))
 shape-right false segments ages e = no-fields e
 
-in-range : (ages : ℕ) → agesOutOfRange ages ≡ false → (leastAges ≤ ages) × (ages ≤ mostAges)
-in-range ages e = neither (ltb ages leastAges) (ltb mostAges ages) refl refl e
-  where
-    neither : (low high : Bool) → ltb ages leastAges ≡ low → ltb mostAges ages ≡ high → (low || high) ≡ false
-        → (leastAges ≤ ages) × (ages ≤ mostAges)
-    neither false false l h e = (ltb-false ages leastAges l, ltb-false mostAges ages h)
-    neither false true l h e = absurd (let z : _≡_ {A = ℕ} 0 1 = cc in omega arith)
-    neither true high l h e = absurd (let z : _≡_ {A = ℕ} 0 1 = cc in omega arith)
-
 renamed : {list : List Float} {segments ages s n : ℕ} → (segments ≡ s) × (ages ≡ n) → Counted list segments ages → Counted list s n
 renamed e counts = rw (← e .0, ← e .1) counts
 
@@ -141,7 +133,7 @@ counts-accepted list e =
     let segments = counted segmentsField (countIn segmentsField list) _ _ (long .1) in
     let ages = counted agesField (countIn agesField list) _ _ (segments .1 .1 .1) in
     let shape = shape-right (eqb (length list) (fieldsIn (segments .0) (ages .0))) (segments .0) (ages .0) (ages .1 .1 .1) in
-    let range = in-range (ages .0) (ages .1 .1 .0) in
+    let range = ages-in-range (ages .0) (ages .1 .1 .0) in
     renamed (shape .1)
     (record {
       segments = record {

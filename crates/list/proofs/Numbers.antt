@@ -13,6 +13,7 @@ use lib.Seq.{take-suc, drop-cons, set-at, length-take-le, take-all, split-at}
 use Rattle.ticks.specs.declared.Amount.{Amount}
 use Rattle.ticks.specs.declared.Amount.the-variants.{Of, Refused}
 use Rattle.fields.specs.Amounts.{numbersIn, over}
+use Rattle.fields.proofs.Laws.{numbers-append}
 use Rattle.list.specs.Lists.{amountOf, amountsOf, Written}
 
 -- ---- the amounts of a list
@@ -34,12 +35,6 @@ amounts-at segments field (x ∷ xs) (suc k) h =
     amounts-at segments (suc field) xs k (le-of-suc-le-suc h) ∙ ap (λ (f : ℕ). amountOf segments f (getD xs k nan)) e
 
 -- ---- their numbers
-
-pub numbers-append : (xs ys : List Amount) → length (numbersIn xs) ≡ length xs → numbersIn (xs ++ ys) ≡ numbersIn xs ++ numbersIn ys
-unfolding numbersIn
-numbers-append [] ys h = refl
-numbers-append (Of n ∷ xs) ys h = ap (λ (l : List ℕ). n ∷ l) (numbers-append xs ys (omega arith))
-numbers-append (Refused ∷ xs) ys h = absurd (omega arith)
 
 -- the first `at` fields are read, and their numbers stand at the front
 pub record Front (amounts : List Amount) (old now : List ℕ) (at : ℕ) : Type 0 where

@@ -2,7 +2,7 @@
 -- a double refuse the two alike, and a list of more doubles than a list can have fields is refused with any length.
 -- Assumes nothing.
 use mathlib.Core.Path.{_≡_, refl, sym, ap, _∙_}
-use mathlib.Core.Bool.{Bool, true, false, false≢true, _||_, cond}
+use mathlib.Core.Bool.{Bool, true, false, false≢true, cond}
 use mathlib.Core.List.{List, [], _∷_, _++_, map}
 use Prim.Native.Nat.{ℕ, zero, suc, _-_, _*_, _%_, min, _≤_, _<_}
 use native.Mathlib.Nat.{le-of-lt, suc-min-suc, zero-min, min-zero, min-le-left, min-le-right}
@@ -21,10 +21,11 @@ use Rattle.ticks.proofs.Laws.{refused}
 use Rattle.fields.specs.declared.refusal.Reading.{Reading}
 use Rattle.fields.specs.declared.refusal.Reading.the-variants.{Fields, Not}
 use Rattle.fields.specs.declared.refusal.Refusal.the-variants.{Shape, Ranges}
-use Rattle.fields.specs.Layout.{segmentsField, agesField, mostSegments, leastAges, mostAges, agesOutOfRange}
+use Rattle.fields.specs.Layout.{segmentsField, agesField, mostSegments, agesOutOfRange}
 use Rattle.fields.specs.Layout.{headFields, mostFields, fieldsIn}
 use Rattle.fields.specs.Amounts.{refused as notRead}
 use Rattle.fields.proofs.Accepted.{Accepted}
+use Rattle.fields.proofs.Laws.{ages-in-range}
 use Rattle.list.proofs.Laws.{list-accepted}
 use Rattle.list.specs.Lists.{amountIn, inTicks, amountsOf, withCount, countIn, countsIn, withCounts, listOutcome}
 use Rattle.numbers.specs.Numbers.{room, numbersFrom, doublesOf, bytesOutcome}
@@ -83,10 +84,6 @@ same-doubles numbers = by (countsIn (map standsFor numbers)) ∙ rw (same-counts
 
 -- ---- the first 345 doubles
 
-or-right : (a b : Bool) → (a || b) ≡ false → b ≡ false
-or-right true b e = absurd (false≢true (sym e))
-or-right false b e = e
-
 -- the counts of a list of more doubles than a list can have fields
 abbrev tooLong : Amount → Amount → Reading
 tooLong segments ages =
@@ -96,7 +93,7 @@ module _ (list : List Float) (long : mostFields < length list) where
   other-length : (s n : ℕ) → ltb mostSegments s ≡ false → agesOutOfRange n ≡ false → eqb (length list) (fieldsIn s n) ≡ false
   other-length s n few ranged =
       let segments = ltb-false mostSegments s few in
-      let ages = ltb-false mostAges n (or-right (ltb n leastAges) (ltb mostAges n) ranged) in
+      let ages = ages-in-range n ranged .1 in
       ne-eqb (length list) (fieldsIn s n) (λ e. omega arith)
 
   too-long : countsIn list ≡ tooLong (countIn segmentsField list) (countIn agesField list)

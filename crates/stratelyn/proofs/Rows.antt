@@ -3,7 +3,7 @@
 use mathlib.Core.Path.{_≡_, refl, sym, ap, _∙_}
 use mathlib.Core.Bool.{Bool, true, false}
 use mathlib.Core.List.{List, [], _∷_, _++_, append-assoc}
-use Prim.Native.Nat.{ℕ, zero, suc, _+_, _*_, min, _≤_}
+use Prim.Native.Nat.{ℕ, suc, _+_, _*_, min, _≤_}
 use native.Mathlib.Nat.{le-min, min-le-left, min-le-right}
 use native.Mathlib.Omega.{arith}
 use borrow.Author.Tests.{le-leb, lt-leb, leb-true, leb-false}
@@ -12,10 +12,11 @@ use lib.ListN.{length, take, drop}
 use lib.Seq.{take-at}
 use Rattle.fields.specs.declared.refusal.Reading.the-variants.{Fields}
 use Rattle.fields.specs.Layout.{mostAges}
+use Rattle.fields.proofs.Laws.{ages-length}
 use Rattle.member.specs.declared.Member.{Member}
 use Rattle.member.specs.declared.Checked.{Checked}
 use Rattle.member.specs.declared.Checked.the-variants.{Accepted, Refused}
-use Rattle.fields.specs.Quantities.{Age, agesFrom, agesOf}
+use Rattle.fields.specs.Quantities.{Age, agesOf}
 use Rattle.checks.specs.Rows.{firstFailing, perRow}
 use Rattle.member.specs.Member.{checkedOf}
 use Rattle.member.proofs.Laws.{accepted}
@@ -34,11 +35,6 @@ use Rattle.losses.specs.Answers.{reportAfter, Ran}
 use Rattle.stratelyn.specs.Parts.{mostNumbers, Front, Rowed}
 
 -- ---- four numbers for each age
-
-ages-length : (ages : ℕ) (fields : List ℕ) → length (agesFrom ages fields) ≡ ages
-unfolding agesFrom
-ages-length zero fields = refl
-ages-length (suc ages) fields = ap suc (ages-length ages (drop 2 fields))
 
 module _ (m : Member) where
   -- the rows from an age on that leaves a stress

@@ -1,3 +1,3 @@
 pub mod Rows
 mod Arms
-mod Weights
+pub mod Weights

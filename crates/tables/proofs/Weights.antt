@@ -9,7 +9,7 @@ use Rattle.tables.specs.declared.Row.{Row}
 use Rattle.tables.specs.Lines.{at, hundredths, weighed}
 
 -- the way from a to b goes by way of x
-by-way : (value a x b : ℕ) → a ≤ x → x ≤ b → value * (b - a) ≡ value * (b - x) + value * (x - a)
+pub by-way : (value a x b : ℕ) → a ≤ x → x ≤ b → value * (b - a) ≡ value * (b - x) + value * (x - a)
 by-way value a x b from to =
     let parts : b - a ≡ (b - x) + (x - a) = omega arith in
     rw parts (mul-add value (b - x) (x - a))

@@ -2,9 +2,9 @@
 -- relaxation, shortening and the ages, near each other after every step; the two tolerances are one lemma, at the allowances of 1 and
 -- of 40 psi a step. That no stress rises, that the losses and the last stress add up to the jacking stress, and that the numbers are
 -- those reported, is read off the run. Assumes nothing.
-use mathlib.Core.Path.{_≡_, refl, ap}
+use mathlib.Core.Path.{_≡_}
 use mathlib.Core.List.{List, _∷_}
-use Prim.Native.Nat.{ℕ, zero, suc, _+_, _-_, _*_, _≤_}
+use Prim.Native.Nat.{ℕ, suc, _+_, _-_, _*_, _≤_}
 use native.Mathlib.Nat.{le-of-eq, mul-le-mul-right}
 use native.Mathlib.Omega.{arith}
 use lib.ListN.{length, getD, take, drop}
@@ -12,8 +12,9 @@ use lib.Seq.{take-all}
 use Rattle.fraction.specs.Fraction.{Fraction}
 use Rattle.fraction.proofs.Floors.{whole-order}
 use Rattle.fraction.proofs.Distances.{within-weaken}
-use Rattle.fields.specs.Layout.{mostSegments, mostAges, headFields, perSegment, perAge}
-use Rattle.fields.specs.Quantities.{Age, agesFrom, segmentsOf, agesOf, transfer, ownWeightMoment, wobble, curvature}
+use Rattle.fields.specs.Layout.{mostSegments, mostAges, headFields, perSegment}
+use Rattle.fields.specs.Quantities.{Age, segmentsOf, agesOf, transfer, ownWeightMoment, wobble, curvature}
+use Rattle.fields.proofs.Laws.{ages-length}
 use Rattle.member.specs.Friction.{pathFriction as ticksFriction}
 use Rattle.member.specs.Member.{memberOf}
 use Rattle.member.specs.Facts.{Facts}
@@ -32,11 +33,6 @@ use Rattle.tolerance.proofs.Run.{Began, AgesRun, run, ages-fall, ages-c
 use Rattle.tolerance.proofs.Beginning.{path-length, jacked-is, friction-is, along-path, after-slip, after-deflector}
 use Rattle.tolerance.proofs.Beginning.{after-early, after-shortening}
 use Rattle.tolerance.proofs.Ages.{ages-chain}
-
-ages-length : (ages : ℕ) (fields : List ℕ) → length (agesFrom ages fields) ≡ ages
-unfolding agesFrom
-ages-length zero fields = refl
-ages-length (suc ages) fields = ap suc (ages-length ages (drop perAge fields))
 
 module _ {segments ages report scratch : ℕ} {fields : List ℕ} (facts : Facts segments ages fields report scratch)
     (segments≤ : segments ≤ mostSegments) (ages≤ : ages ≤ mostAges) {before : BeforeAges} {rows : List ℕ} {last : ℕ}

@@ -7,7 +7,7 @@ use mathlib.Core.Path.{_≡_, refl}
 use mathlib.Core.Bool.{Bool, true, false, cond, _&&_}
 use mathlib.Core.List.{List, [], _∷_}
 use Prim.Native.Nat.{ℕ, _+_, _-_, _*_, _/_, _^_, _≤_, _<_}
-use native.Mathlib.Nat.{le-refl, le-trans, mul-add, mul-le-mul-left, mul-le-mul-right, sub-le}
+use native.Mathlib.Nat.{le-refl, le-trans, mul-le-mul-left, mul-le-mul-right, sub-le}
 use native.Mathlib.Omega.{arith}
 use lib.Dec.{leb, ltb, eqb, leb→le, eqb→eq, lit<, lit≤, T as Holds}
 use lib.Ieee.Fits.{and-l, and-r}
@@ -25,6 +25,7 @@ use Rattle.coefficient.specs.declared.clocks.HoursSinceCuring.{HoursSinceCuring
 use Rattle.tables.specs.Lines.{hundred, at, hundredths, weighed, reading, along as ticksAlong}
 use Rattle.tables.specs.Tables.{T, creepShareRows, shrinkageShareRows, rowsOf}
 use Rattle.tables.specs.Tables.{tableReading}
+use Rattle.tables.proofs.Weights.{by-way}
 use Rattle.coefficient.specs.Coefficients.{creepShare, shrinkageShare}
 use Rattle.steps.specs.Steps.{shrinkageLoss as ticksShrinkageLoss}
 use Rattle.tolerance.specs.Quotients.{_÷_}
@@ -34,10 +35,6 @@ use Rattle.tolerance.proofs.Quotients.{quotient-order, quotient-most, q
 use Rattle.tolerance.proofs.Rounded.{Rounded, floor-rounded, rounded-product, rounded-within, rounded-not-negative}
 
 -- ---- lines
-
--- a way from a to b that goes by x
-by-way : (value a x b : ℕ) → a ≤ x → x ≤ b → value * (b - a) ≡ value * (b - x) + value * (x - a)
-by-way value a x b from to = let parts : b - a ≡ (b - x) + (x - a) = omega arith in rw parts (mul-add value (b - x) (x - a))
 
 -- what holds of each answer in its own case holds of the test whether x lies before a place
 by-place : (P : Bool → Type 0) (x place : ℕ) → (x < place → P true) → (place ≤ x → P false) → P (ltb x place)
