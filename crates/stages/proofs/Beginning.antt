@@ -17,7 +17,8 @@ use Rattle.stages.specs.Stresses.{after}
 use Rattle.stages.specs.Bounds.{Bounded}
 use Rattle.stages.specs.BeforeAges.{jacked, frictionOf, slipOf, deflectorOf, relaxationLogarithm}
 use Rattle.stages.specs.BeforeAges.{earlyRelaxation, earlyRelaxationOf}
-use Rattle.stages.specs.BeforeAges.{shorteningOf, onward, leaving, afterThree, begunOf}
+use Rattle.stages.specs.BeforeAges.{shorteningOf, onward, begunOf}
+use Rattle.stages.specs.Parts.{leaving, afterThree}
 use Rattle.stages.proofs.Leaving.{never-more, left-fits}
 
 two : (left : Stress) (second : ℕ → Stress) (next : ℕ → Begun)

@@ -55,15 +55,6 @@ abbrev pub onward : Stress → (ℕ → Begun) → Begun
 onward Gone next = Fails
 onward (Left stress) next = next stress
 
-abbrev pub leaving : Stress → (ℕ → Stress) → Stress
-leaving Gone next = Gone
-leaving (Left stress) next = next stress
-
--- what three losses leave, one after the other
-abbrev pub afterThree : ℕ → ℕ → ℕ → ℕ → Stress
-afterThree stress first second third =
-    leaving (after stress first) (λ once. leaving (after once second) (λ twice. after twice third))
-
 -- "number 7 .. after a loss .. 0 before ages": looked for after each loss in turn
 unfoldable pub begunOf : Member → Begun
 begunOf m =

@@ -3,7 +3,7 @@
 
 mod paper;
 
-use paper::{in_ticks, read_card, read_list, Paper, Refusal, Run};
+use paper::{in_ticks, read_card, read_list, Paper, Reading, Refusal, Run};
 
 const CASES: usize = 200_000;
 
@@ -253,48 +253,55 @@ fn seen(counts: [usize; 11], unseen: usize) {
     }
 }
 
-#[test]
-fn cards() {
+/// Runs every case through an entry: `input` gives its bytes, and what the paper reads of them.
+fn run_cases(
+    seed: u64,
+    unseen: usize,
+    input: impl Fn(&mut Random, &[u64]) -> (Vec<u8>, Reading),
+    entry: impl Fn(&[u8], &mut Buffers) -> u64,
+) {
     let paper = Paper::new();
-    let mut r = Random(0x5EED_0001_CA4D);
+    let mut r = Random(seed);
     let mut counts = [0; 11];
     for case in 0..CASES {
         let mut f = member(&mut r);
         disturb(&mut r, &mut f);
-        let card = card_text(&mut r, &f);
+        let (bytes, reading) = input(&mut r, &f);
         let was = Buffers::new(&mut r, f[23]);
         let mut now = copy(&was);
-        let returned = stratelyn::run_card_bytes(&card, &mut now.report, &mut now.scratch, &mut now.reply);
-        let due = read_card(&card)
-            .and_then(|(f, s, n)| paper.run(&f, s, n, was.report.len() / 8, was.scratch.len() / 8));
+        let returned = entry(&bytes, &mut now);
+        let due = reading.and_then(|(f, s, n)| paper.run(&f, s, n, was.report.len() / 8, was.scratch.len() / 8));
         tally(&mut counts, &due);
-        compare(&format!("card {case}"), returned, &was, &now, due);
+        compare(&format!("case {case}"), returned, &was, &now, due);
     }
-    seen(counts, 9);
+    seen(counts, unseen);
+}
+
+#[test]
+fn cards() {
+    let input = |r: &mut Random, f: &[u64]| {
+        let card = card_text(r, f);
+        let reading = read_card(&card);
+        (card, reading)
+    };
+    run_cases(0x5EED_0001_CA4D, 9, input, |card, now| {
+        stratelyn::run_card_bytes(card, &mut now.report, &mut now.scratch, &mut now.reply)
+    });
 }
 
 #[test]
 fn lists() {
-    let paper = Paper::new();
-    let mut r = Random(0x5EED_0002_1157);
-    let mut counts = [0; 11];
-    for case in 0..CASES {
-        let mut f = member(&mut r);
-        disturb(&mut r, &mut f);
-        let list = list_bits(&mut r, &f);
+    let input = |r: &mut Random, f: &[u64]| {
+        let list = list_bits(r, f);
         let mut bytes = numbers(&list);
-        let odd = r.one_in(30);
-        if odd {
+        if r.one_in(30) {
             let more = r.between(1, 7) as usize;
             bytes.extend(r.fill(more));
+            return (bytes, Err((8, 0)));
         }
-        let was = Buffers::new(&mut r, f[23]);
-        let mut now = copy(&was);
-        let returned = stratelyn::run_list_bytes(&bytes, &mut now.report, &mut now.scratch, &mut now.reply);
-        let due = if odd { Err((8, 0)) } else { read_list(&list) }
-            .and_then(|(f, s, n)| paper.run(&f, s, n, was.report.len() / 8, was.scratch.len() / 8));
-        tally(&mut counts, &due);
-        compare(&format!("list {case}"), returned, &was, &now, due);
-    }
-    seen(counts, 11);
+        (bytes, read_list(&list))
+    };
+    run_cases(0x5EED_0002_1157, 11, input, |list, now| {
+        stratelyn::run_list_bytes(list, &mut now.report, &mut now.scratch, &mut now.reply)
+    });
 }

@@ -6,6 +6,9 @@
 /// A refusal's number and place.
 pub type Refusal = (u64, u64);
 
+/// What a reader gives: the fields, with the counts of segments and ages.
+pub type Reading = Result<(Vec<u64>, usize, usize), Refusal>;
+
 /// An accepted run: five losses and the stress before the ages, then creep, shrinkage, relaxation and stress for each age.
 #[derive(Debug, Clone, PartialEq)]
 pub struct Run {
@@ -112,7 +115,7 @@ fn card_field(columns: &[u8], field: usize) -> Option<u64> {
 }
 
 /// Fields with the counts of segments and ages.
-pub fn read_card(card: &[u8]) -> Result<(Vec<u64>, usize, usize), Refusal> {
+pub fn read_card(card: &[u8]) -> Reading {
     let mut fields = Vec::new();
     let mut at = 0;
     let mut line = 0;
@@ -169,7 +172,7 @@ pub fn in_ticks(field: usize, s: usize) -> bool {
     }
 }
 
-pub fn read_list(list: &[u64]) -> Result<(Vec<u64>, usize, usize), Refusal> {
+pub fn read_list(list: &[u64]) -> Reading {
     if list.len() < 24 {
         return Err((8, 0));
     }

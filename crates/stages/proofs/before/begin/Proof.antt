@@ -6,7 +6,8 @@ use Rattle.stages.proofs.Beginning.{deflected-fits, fails-deflected, fa
 use Rattle.stages.proofs.Leaving.{left-fits}
 use Rattle.stages.proofs.before.begin.Statement.{statement}
 use Rattle.stages.proofs.before.begin.Tie as tie
-use Rattle.stages.specs.BeforeAges.{jacked, frictionOf, slipOf, deflectorOf, earlyRelaxationOf, shorteningOf, afterThree}
+use Rattle.stages.specs.BeforeAges.{jacked, frictionOf, slipOf, deflectorOf, earlyRelaxationOf, shorteningOf}
+use Rattle.stages.specs.Parts.{afterThree}
 use Rattle.stages.specs.Stresses.{after}
 use Rattle.stages.specs.declared.Stress.the-variants.{Left}
 
