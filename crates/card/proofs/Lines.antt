@@ -14,7 +14,7 @@ use borrow.Rule.Slice.PartMut.{midOf, putMid}
 use Rattle.fields.specs.Amounts.{numbersIn, allRead, over}
 use Rattle.fields.specs.Layout.{columns}
 use Rattle.line.specs.Line.{lineFeed, lineLength, amountsOf, isShaped, isRight, lineNumbers}
-use Rattle.card.specs.Card.{Lines, readLines, fieldsOn}
+use Rattle.card.specs.Card.{Lines, readLines, fieldsOn, bytesOn}
 use Rattle.fields.proofs.Buffers.{length-over, tail, written-behind}
 use Rattle.line.proofs.Amounts.{amounts-length, Line}
 
@@ -36,11 +36,6 @@ right-line count field bytes h =
     )
 
 -- ---- lines that are right, and those behind them
-
--- how many bytes some lines have
-abbrev pub bytesOn : List ℕ → ℕ
-bytesOn [] = 0
-bytesOn (count ∷ counts) = lineLength count + bytesOn counts
 
 pub fields-append : (xs ys : List ℕ) → fieldsOn (xs ++ ys) ≡ fieldsOn xs + fieldsOn ys
 fields-append [] ys = sym (zero-add (fieldsOn ys))

@@ -17,10 +17,10 @@ use Rattle.fields.specs.Layout.{segmentsField, agesField, mostSegments, leastAg
 use Rattle.fields.specs.Layout.{headFields, firstSegmentField, mostFields}
 use Rattle.fields.specs.Amounts.{over, Outcome, refused, accepted}
 use Rattle.line.specs.Line.{lineLength}
-use Rattle.card.specs.Card.{Lines, readLines, fieldsOn, headLines, head, firstSegmentLine, lineBehind}
+use Rattle.card.specs.Card.{Lines, readLines, fieldsOn, bytesOn, headLines, head, firstSegmentLine, lineBehind}
 use Rattle.card.specs.Card.{announcedOf, segmentsIn, agesIn, announced, firstWrong, cardOutcome}
 use Rattle.fields.proofs.Buffers.{length-over, tail, written-behind}
-use Rattle.card.proofs.Lines.{bytesOn, Right, lines-right}
+use Rattle.card.proofs.Lines.{Right, lines-right}
 use Rattle.card.proofs.Lines.{andThen, readLines-append, readLines-stops, LinesRead}
 
 -- ---- lines of the same count
@@ -37,7 +37,7 @@ fields-replicate (suc n) count = rw (fields-replicate n count, mul-suc) (add-com
 pub fields-taken : (n most count : ℕ) → n ≤ most → fieldsOn (take n (replicate most count)) ≡ count * n
 fields-taken n most count h = ap fieldsOn (take-replicate n most count h) ∙ fields-replicate n count
 
-bytes-replicate : (n count : ℕ) → bytesOn (replicate n count) ≡ lineLength count * n
+pub bytes-replicate : (n count : ℕ) → bytesOn (replicate n count) ≡ lineLength count * n
 bytes-replicate zero count = sym (mul-zero (lineLength count))
 bytes-replicate (suc n) count = rw (bytes-replicate n count, mul-suc) (add-comm (lineLength count) (lineLength count * n))
 

@@ -5,7 +5,7 @@ use mathlib.Core.List.{List, [], _∷_, _++_}
 use lib.Dec.{ltb}
 use lib.ListN.{length, getD, drop, replicate}
 use Rattle.fields.specs.declared.refusal.Refusal.the-variants.{Shape, Ranges}
-use Rattle.fields.specs.Layout.{segmentsField, agesField, mostSegments, agesOutOfRange, perSegment, perAge, firstSegmentField}
+use Rattle.fields.specs.Layout.{segmentsField, agesField, mostSegments, mostAges, agesOutOfRange, perSegment, perAge, firstSegmentField}
 use Rattle.fields.specs.Amounts.{Outcome, refused, accepted}
 use Rattle.line.specs.Line.{lineLength, amountsOf, isRight, lineNumbers}
 
@@ -33,6 +33,11 @@ abbrev pub fieldsOn : List ℕ → ℕ
 fieldsOn [] = 0
 fieldsOn (count ∷ counts) = count + fieldsOn counts
 
+-- how many bytes they have
+abbrev pub bytesOn : List ℕ → ℕ
+bytesOn [] = 0
+bytesOn (count ∷ counts) = lineLength count + bytesOn counts
+
 -- ---- the card
 
 -- "Line 1" to "Line 4"
@@ -49,6 +54,10 @@ announcedLines segments ages = replicate segments perSegment ++ replicate ages p
 
 abbrev pub firstSegmentLine : ℕ
 firstSegmentLine = 5
+
+-- the bytes of the longest good card
+abbrev pub mostBytes : ℕ
+mostBytes = bytesOn headLines + bytesOn (announcedLines mostSegments mostAges)
 
 -- the line behind the last due one
 abbrev pub lineBehind : ℕ → ℕ → ℕ
