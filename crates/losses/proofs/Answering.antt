@@ -1,15 +1,12 @@
 -- What a run answers and leaves of the two buffers, in its three ways: no stress is left before the ages, or at one of them, or all
 -- ages are passed. Assumes nothing.
 use mathlib.Core.Path.{_≡_, refl, sym, ap, _∙_}
-use mathlib.Core.Bool.{false}
 use mathlib.Core.List.{List, _++_}
 use Prim.Native.Nat.{ℕ, _*_, _^_, _<_}
 use native.Mathlib.Omega.{arith}
 use lib.Ieee.{Float}
-use lib.Ieee.Exact.{HasValue}
 use lib.ListN.{length, take, drop}
 use lib.Seq.{take-at}
-use Rattle.ticks.specs.Doubles.{ticksPerUnit}
 use Rattle.fields.specs.declared.refusal.Refusal.{Refusal}
 use Rattle.fields.specs.declared.refusal.Refusal.the-variants.{Stress as StressRefusal}
 use Rattle.member.specs.declared.Member.{Member}
@@ -26,7 +23,8 @@ use Rattle.stages.specs.BeforeAges.{begunOf}
 use Rattle.stages.specs.Ages.{Aged, agedFrom}
 use Rattle.losses.specs.RunAges.{lastOf, last, RanAges}
 use Rattle.stages.specs.Run.{Result, refused, startOf, memberResult}
-use Rattle.losses.specs.Answers.{Ran}
+use Rattle.losses.specs.Answers.{IsExactly, Ran}
+use Rattle.losses.proofs.Doubles.{same-bits}
 
 -- what the last stress says of the ages
 left-last : (stress : Stress) (number last : ℕ) → Of last ≡ lastOf stress number → stress ≡ Left last
@@ -50,10 +48,10 @@ refused-stress : (age : ℕ) (result : Result) (report scratch scratchWas : List
     → length scratch ≡ length scratchWas → Ran result (Refused (StressRefusal age)) report report scratch scratchWas
 refused-stress age result report scratch scratchWas e room =
     rw e (record {
-      answered = refl;
-      written = refl;
-      kept = λ seven. let never : _≡_ {A = ℕ} 0 1 = cc in absurd (omega arith);
-      room = room;
+      answered = record { number-is = refl; values-are = refl; double-is = tt };
+      report-is = refl;
+      scratch-kept = λ seven. let never : _≡_ {A = ℕ} 0 1 = cc in absurd (omega arith);
+      scratch-length = room;
     })
 
 module _ (m : Member) (ages : List Age) (report scratchWas : List ℕ) where
@@ -73,25 +71,29 @@ module _ (m : Member) (ages : List Age) (report scratchWas : List ℕ) where
         refused-stress age (memberResult m ages) report scratch scratchWas (rw (sym begun, gone .0, gone .1)) (ran .kept)
 
     pub all-passed : (stress : ℕ) (double : Float) (copied : List ℕ) → RanAges aged (m .ages) (Of stress) scratch scratchWas
-        → HasValue double false stress ticksPerUnit
-        → copied ≡ take (perRow * m .ages) scratch ++ drop (perRow * m .ages) report
+        → IsExactly double stress → copied ≡ take (perRow * m .ages) scratch ++ drop (perRow * m .ages) report
         → Ran (memberResult m ages) (Accepted (record { before = before; last = double })) copied report scratch scratchWas
     unfolding memberResult
-    all-passed stress double copied ran value copy =
+    all-passed stress double copied ran exactly copy =
         let left = left-last (aged .stress) (aged .number) stress (ran .result-is) in
         let rows : length (aged .rows) ≡ perRow * m .ages = ran .all-passed .1 in
         let front : take (perRow * m .ages) scratch ≡ aged .rows =
         ap (take (perRow * m .ages)) (ran .written)
         ∙ take-at (aged .rows) (drop (length (aged .rows)) scratchWas) (perRow * m .ages) rows in
         rw (sym begun, left) (record {
-          answered = record { numbers = refl; double = value };
-          written = rw (sym rows) at (rw front at copy);
-          kept = λ free. let never : _≡_ {A = ℕ} 0 1 = cc in absurd (omega arith);
-          room = ran .kept;
+          answered = record { number-is = refl; values-are = rw (same-bits double stress exactly); double-is = exactly };
+          report-is = rw (sym rows) at (rw front at copy);
+          scratch-kept = λ free. let never : _≡_ {A = ℕ} 0 1 = cc in absurd (omega arith);
+          scratch-length = ran .kept;
         })
 
 -- a refusal before the run: both buffers are as they were
 pub refused-early : (refusal : Refusal) (result : Result) (report scratch : List ℕ) → result ≡ refused refusal
     → Ran result (Refused refusal) report report scratch scratch
 refused-early refusal result report scratch e =
-    rw e (record { answered = refl; written = refl; kept = λ unaltered. refl; room = refl })
+    rw e (record {
+      answered = record { number-is = refl; values-are = refl; double-is = tt };
+      report-is = refl;
+      scratch-kept = λ unaltered. refl;
+      scratch-length = refl;
+    })

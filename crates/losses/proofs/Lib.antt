@@ -1,3 +1,4 @@
+pub mod Doubles
 pub mod Readers
 mod Accepting
 mod Answering

@@ -1,14 +1,18 @@
--- What an entry answers, and what it leaves of the lent buffers: document 01, "Refusal by place of checking", its last lines. Assumes
--- nothing.
+-- What an entry answers, and what it leaves of the lent buffers: document 01, "The card", from "The last stress also goes out" on, and
+-- the last lines of "Refusal by place of checking". What a run gives and what an entry answers have each the paper's number and values,
+-- by one definition for native and for C hosts. Assumes nothing.
 use mathlib.Core.Path.{_≡_}
 use mathlib.Core.Bool.{Bool, true, false, not}
 use Prim.Native.Nat.{ℕ}
 use lib.Dec.{eqb}
-use mathlib.Core.List.{List}
+use lib.IntN.{negsuc}
+use mathlib.Core.List.{List, [], _∷_}
+use lib.Ieee.{Float, fin, binary64, toBits}
 use lib.Ieee.Exact.{HasValue}
-use lib.ListN.{length}
+use lib.ListN.{length, replicate}
 use Rattle.ticks.specs.Doubles.{ticksPerUnit}
-use Rattle.fields.specs.Refusals.{number}
+use Rattle.fields.specs.declared.refusal.Refusal.{Refusal}
+use Rattle.fields.specs.Refusals.{number, place}
 use Rattle.fields.specs.Amounts.{over}
 use Rattle.stages.specs.declared.BeforeAges.{BeforeAges}
 use Rattle.stages.specs.Run.{Result, reported, refused}
@@ -16,30 +20,77 @@ use Rattle.losses.specs.declared.Reply.{Reply}
 use Rattle.losses.specs.declared.Answer.{Answer}
 use Rattle.losses.specs.declared.Answer.the-variants.{Accepted as AcceptedRun, Refused as RefusedRun}
 
--- "the five losses before the ages and the stress after them"; "the double whose value is exactly ticks/1024"
-pub record Replies (before : BeforeAges) (last : ℕ) (reply : Reply) : Type 0 where
-  pub numbers : reply .before ≡ before
-  pub double : HasValue (reply .last) false last ticksPerUnit
+-- ---- the last stress as a double
 
-abbrev pub Answered : Result → Answer → Type 0
-Answered (reported before rows last) (AcceptedRun reply) = Replies before last reply
-Answered (reported before rows last) (RefusedRun refusal) = ⊥
-Answered (refused refusal) (AcceptedRun reply) = ⊥
-Answered (refused refusal) (RefusedRun given) = given ≡ refusal
+-- "the double whose value is exactly ticks/1024"
+abbrev pub IsExactly : Float → ℕ → Type 0
+IsExactly double ticks = HasValue double false ticks ticksPerUnit
 
--- "A refusal leaves the report unchanged"; "numbers past 4n unchanged"
-abbrev pub reportAfter : Result → List ℕ → List ℕ
-reportAfter (reported before rows last) old = over rows old
-reportAfter (refused refusal) old = old
+-- that double: so many times 2 ^ -10
+abbrev pub doubleOf : ℕ → Float
+doubleOf ticks = fin false ticks (negsuc 9)
+
+-- ---- the paper's number and values
+
+-- "0 if accepted"
+abbrev pub acceptanceNumber : ℕ
+acceptanceNumber = 0
+
+-- "place (0 if accepted), five losses, stress before the ages and last stress as a double", which is "by its bits"
+abbrev pub acceptanceValues : BeforeAges → Float → List ℕ
+acceptanceValues before last =
+    0 ∷ before .friction ∷ before .slip ∷ before .deflector ∷ before .«early_relaxation» ∷ before .shortening ∷ before .stress
+    ∷ toBits binary64 last ∷ []
+
+-- "on a refusal the place and seven zeros"
+abbrev pub refusalValues : Refusal → List ℕ
+refusalValues refusal = place refusal ∷ replicate 7 0
+
+-- of what a run gives
+abbrev pub resultNumber : Result → ℕ
+resultNumber (reported before rows last) = acceptanceNumber
+resultNumber (refused refusal) = number refusal
+
+abbrev pub resultValues : Result → List ℕ
+resultValues (reported before rows last) = acceptanceValues before (doubleOf last)
+resultValues (refused refusal) = refusalValues refusal
+
+-- of an entry's answer
+abbrev pub answerNumber : Answer → ℕ
+answerNumber (AcceptedRun reply) = acceptanceNumber
+answerNumber (RefusedRun refusal) = number refusal
+
+abbrev pub answerValues : Answer → List ℕ
+answerValues (AcceptedRun reply) = acceptanceValues (reply .before) (reply .last)
+answerValues (RefusedRun refusal) = refusalValues refusal
+
+-- ---- what an entry answers
+
+abbrev pub DoubleOut : Result → Answer → Type 0
+DoubleOut (reported before rows last) (AcceptedRun reply) = IsExactly (reply .last) last
+DoubleOut (reported before rows last) (RefusedRun refusal) = Unit {0}
+DoubleOut (refused refusal) answer = Unit {0}
+
+pub record Answered (result : Result) (answer : Answer) : Type 0 where
+  pub number-is : answerNumber answer ≡ resultNumber result
+  pub values-are : answerValues answer ≡ resultValues result
+  pub double-is : DoubleOut result answer
+
+-- ---- what an entry leaves of the lent buffers
+
+-- what is written to the report; "A refusal leaves the report unchanged"
+abbrev pub rowsOf : Result → List ℕ
+rowsOf (reported before rows last) = rows
+rowsOf (refused refusal) = []
 
 -- "refusal 7 alone may alter the scratch"; "Scratch is free after acceptance."
 abbrev pub keepsScratch : Result → Bool
 keepsScratch (reported before rows last) = false
 keepsScratch (refused refusal) = not (eqb (number refusal) 7)
 
--- what an entry ensures of its answer and of the two lent buffers, as they are and as they were
+-- what an entry ensures of its answer and of the two lent buffers, as they are and as they were; "numbers past 4n unchanged"
 pub record Ran (result : Result) (answer : Answer) (report reportWas scratch scratchWas : List ℕ) : Type 0 where
   pub answered : Answered result answer
-  pub written : report ≡ reportAfter result reportWas
-  pub kept : keepsScratch result ≡ true → scratch ≡ scratchWas
-  pub room : length scratch ≡ length scratchWas
+  pub report-is : report ≡ over (rowsOf result) reportWas
+  pub scratch-kept : keepsScratch result ≡ true → scratch ≡ scratchWas
+  pub scratch-length : length scratch ≡ length scratchWas

@@ -1,4 +1,3 @@
-mod Doubles
 mod Rows
 mod Hosting
 mod Serving

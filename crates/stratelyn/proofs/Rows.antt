@@ -12,6 +12,7 @@ use lib.ListN.{length, take, drop}
 use lib.Seq.{take-at}
 use Rattle.fields.specs.declared.refusal.Reading.the-variants.{Fields}
 use Rattle.fields.specs.Layout.{mostAges}
+use Rattle.fields.specs.Amounts.{over}
 use Rattle.fields.proofs.Laws.{ages-length}
 use Rattle.member.specs.declared.Member.{Member}
 use Rattle.member.specs.declared.Checked.{Checked}
@@ -31,7 +32,7 @@ use Rattle.stages.specs.Stresses.{after}
 use Rattle.stages.specs.Ages.{Start, Aged, agedFrom, onward, behind, rowOf, nextStart, lossesIn}
 use Rattle.stages.specs.Run.{Result, reported, refused, startOf, resultOfAges, resultOfBegun, memberResult, resultOfChecked}
 use Rattle.stages.specs.Run.{resultOfReading}
-use Rattle.losses.specs.Answers.{reportAfter, Ran}
+use Rattle.losses.specs.Answers.{rowsOf, Ran}
 use Rattle.stratelyn.specs.Parts.{mostNumbers, Front, Rowed}
 
 -- ---- four numbers for each age
@@ -128,10 +129,10 @@ module _ (segments ages : ℕ) (fields : List ℕ) where
         let same : resultOfReading (Fields segments ages) fields (length part) (length scratchPart) ≡ result =
         rw (reportIs, scratchIs, same-room report scratch few) in
         let there : Ran result answer after part scratchAfter scratchPart = rw same at ran in
-        record { answered = there .answered; front = front result refl (there .written) }
+        record { answered = there .answered; front = front result refl (there .report-is) }
       where
         front : (result : Result) → resultOfReading (Fields segments ages) fields report scratch ≡ result
-            → after ≡ reportAfter result part → Front result ages report (after ++ rest)
+            → after ≡ over (rowsOf result) part → Front result ages report (after ++ rest)
         front (refused refusal) e w = tt
         front (reported before rows last) e w =
             let fit = rows-fit report scratch before rows last e in (

@@ -21,8 +21,8 @@ module _ (outcome : Outcome)
   pub unserved : (report scratch reply : List ℕ) → length reply < replyBytes
       → Served outcome 10 report report scratch scratch reply reply
   unserved report scratch reply h = record {
-    hosted = rw (lt-ltb (length reply) replyBytes h) (record { returns = refl; replies = refl; reports = refl });
-    kept = refl;
+    exact = rw (lt-ltb (length reply) replyBytes h) (record { number-is = refl; reply-kept = refl; report-kept = refl });
+    scratch-kept = refl;
     close = all-close outcome counted _ _;
   }
 
@@ -33,9 +33,9 @@ module _ (outcome : Outcome)
         report reportWas reply replyWas
         → Served outcome returned report reportWas scratch scratch reply replyWas
     served reportWas scratch replyWas h hosted = record {
-      hosted =
+      exact =
           rw (le-ltb (length replyWas) replyBytes h)
           (rw (same-result outcome counted reading fields same is) at hosted);
-      kept = refl;
+      scratch-kept = refl;
       close = all-close outcome counted _ _;
     }

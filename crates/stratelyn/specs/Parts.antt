@@ -9,6 +9,7 @@ use Rattle.checks.specs.Rows.{perRow}
 use Rattle.losses.specs.declared.Answer.{Answer}
 use Rattle.stages.specs.Run.{Result, reported, refused}
 use Rattle.losses.specs.Answers.{Answered}
+use Rattle.numbers.specs.Numbers.{written}
 
 -- the most numbers that a run can ask a buffer for
 abbrev pub mostNumbers : ℕ
@@ -23,3 +24,8 @@ Front (refused refusal) ages room numbers = Unit {0}
 pub record Rowed (result : Result) (ages room : ℕ) (answer : Answer) (numbers : List ℕ) : Type 0 where
   pub answered : Answered result answer
   pub front : Front result ages room numbers
+
+-- a number is returned, and values stand at the front of the reply
+pub record Replied (number : ℕ) (values : List ℕ) (returned : ℕ) (reply replyWas : List ℕ) : Type 0 where
+  pub returned-is : returned ≡ number
+  pub reply-is : reply ≡ written values replyWas

@@ -7,10 +7,11 @@ ghost use lib.ListN.{length};
 ghost use lib.Ieee.{isNan, binary64, toBits, ofBits};
 ghost use Rattle.fields.specs.Refusals.{number};
 ghost use Rattle.checks.specs.Readable.{Readable, ReadableIf};
-ghost use Rattle.stages.specs.Run.{resultOfReading, refused};
-ghost use Rattle.numbers.specs.Numbers.{room, written};
-ghost use Rattle.stratelyn.specs.Hosts.{replyBytes, acceptance, replyOf, Hosted};
-ghost use Rattle.stratelyn.specs.Parts.{mostNumbers, Rowed};
+ghost use Rattle.stages.specs.Run.{resultOfReading};
+ghost use Rattle.losses.specs.Answers.{acceptanceNumber, acceptanceValues, refusalValues};
+ghost use Rattle.numbers.specs.Numbers.{room};
+ghost use Rattle.stratelyn.specs.Hosts.{replyBytes, Hosted};
+ghost use Rattle.stratelyn.specs.Parts.{mostNumbers, Rowed, Replied};
 use checks::buffers::PER_ROW;
 use fields::layout::MOST_AGES;
 use fields::layout::MOST_FIELDS;
@@ -27,20 +28,20 @@ const MOST_NUMBERS: usize = PER_ROW * MOST_AGES;
 // What an accepted run returns.
 const ACCEPTED: u64 = 0;
 
-// A refusal: its number, and its place with seven zeros for the reply.
+// A refusal: its number, and its values for the reply.
 fn refuse(refusal: Refusal, reply: &mut [u8]) -> u64
     requires { ⌜ replyBytes ≤ length (now reply) ⌝ }
-    ensures { λ r. ⌜ (r ≡ number refusal) × (now (reply .exit) ≡ written (replyOf (refused refusal)) (now (reply .entry))) ⌝ }
+    ensures { λ r. ⌜ Replied (number refusal) (refusalValues refusal) r (now (reply .exit)) (now (reply .entry)) ⌝ }
 {
     let numbers = [fields::refusal::place_of(refusal), 0, 0, 0, 0, 0, 0, 0];
     numbers::write_numbers(&numbers, reply);
     fields::refusal::number_of(refusal)
 }
 
-// An accepted run's reply.
+// An accepted run: its number, and its values for the reply.
 fn accept(before: BeforeAges, last: f64, reply: &mut [u8]) -> u64
     requires { ⌜ (replyBytes ≤ length (now reply)) × T (not (isNan last)) ⌝ }
-    ensures { λ r. ⌜ (r ≡ 0) × (now (reply .exit) ≡ written (acceptance before (toBits binary64 last)) (now (reply .entry))) ⌝ }
+    ensures { λ r. ⌜ Replied acceptanceNumber (acceptanceValues before last) r (now (reply .exit)) (now (reply .entry)) ⌝ }
     ensures { λ r. ⌜ ofBits binary64 (toBits binary64 last) ≡ last ⌝ }
 {
     let numbers = [

@@ -21,8 +21,10 @@ same-length c = search needs
 returns : tie.Need-returns
 returns c =
     let start = c .before .before .before .before .before .before in
-    let fit = start .good .1 .0 .1 in
-    ((refl, c .before .before .write-numbers .ensures), ofBits-toBits binary64 (start .args .last) (rw fit tt))
+    let fit = start .good .1 .0 .1 in (
+      record { returned-is = refl; reply-is = c .before .before .write-numbers .ensures },
+      ofBits-toBits binary64 (start .args .last) (rw fit tt),
+    )
 
 pub accept-spec : {M : Type 1} → statement M
 accept-spec =

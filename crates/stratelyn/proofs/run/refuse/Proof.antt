@@ -21,7 +21,10 @@ same-length c = search needs
 returns : tie.Need-returns
 returns c =
     let place = c .before .before .before .before .before .before in
-    (c .number-of .ensures, rw (place .place-of .ensures) at (c .before .before .before .write-numbers .ensures))
+    record {
+      returned-is = c .number-of .ensures;
+      reply-is = rw (place .place-of .ensures) at (c .before .before .before .write-numbers .ensures);
+    }
 
 pub refuse-spec : {M : Type 1} → statement M
 refuse-spec =

@@ -15,7 +15,7 @@ use Rattle.stages.specs.Run.{Result, resultOfReading}
 use Rattle.checks.specs.Rows.{perRow}
 use Rattle.numbers.specs.Numbers.{room}
 use Rattle.stratelyn.specs.Parts.{Rowed}
-use Rattle.stratelyn.proofs.Hosting.{hosted-refusal, run-refused, run-finite, run-room, run-accepted}
+use Rattle.stratelyn.proofs.Hosting.{run-refused, run-finite, run-room, run-accepted}
 use Rattle.stratelyn.proofs.run.serve_fields.Statement.{statement}
 use Rattle.stratelyn.proofs.run.serve_fields.Tie as tie
 
@@ -85,8 +85,7 @@ returns : tie.Need-returns
 returns c =
     let told = c .before .before .before .before in
     let ran = told .before .before .before .before in
-    rw (run-refused _ _ _ _ _ (rw (told .before .refusal .given .1) at (ran .run-rows .ensures)))
-    (hosted-refusal _ _ (c .before .before .refuse .ensures))
+    run-refused _ _ _ _ _ (rw (told .before .refusal .given .1) at (ran .run-rows .ensures)) _ (c .before .before .refuse .ensures)
 
 same-length-2 : tie.Need-same-length-2
 same-length-2 c = search needs

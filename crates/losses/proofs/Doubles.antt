@@ -1,23 +1,20 @@
 -- The bits of a double are those of its value, and one that has a value is no NaN. Assumes nothing.
 use mathlib.Core.Path.{_≡_, sym, ap, _∙_}
-use mathlib.Core.Bool.{false, not}
+use mathlib.Core.Bool.{not}
 use Prim.Native.Nat.{ℕ, _*_, _^_}
 use native.Mathlib.Nat.{mul-one, mul-right-comm}
 use lib.Dec.{T, lit<}
 use lib.Ieee.{Float, nan, inf, fin, binary64, up, down, isNan, toBits}
-use lib.Ieee.Exact.{HasValue}
 use lib.Ieee.Fits.{down-pos}
 use lib.Ieee.Nearest.{div-same}
-use Rattle.ticks.specs.Doubles.{ticksPerUnit}
-use Rattle.stratelyn.specs.Hosts.{doubleOf}
+use Rattle.losses.specs.Answers.{IsExactly, doubleOf}
 
 scaled : (m u d ticks k : ℕ) → m * u * 1024 ≡ ticks * d → m * u * k * 1024 ≡ ticks * 1 * k * d
 scaled m u d ticks k e =
     mul-right-comm (m * u) k 1024 ∙ ap (λ (n : ℕ). n * k) e ∙ mul-right-comm ticks d k
     ∙ ap (λ (n : ℕ). n * k * d) (sym (mul-one ticks))
 
-pub same-bits : (x : Float) (ticks : ℕ) → HasValue x false ticks ticksPerUnit
-    → toBits binary64 x ≡ toBits binary64 (doubleOf ticks)
+pub same-bits : (x : Float) (ticks : ℕ) → IsExactly x ticks → toBits binary64 x ≡ toBits binary64 (doubleOf ticks)
 unfolding toBits
 same-bits nan ticks v = absurd v
 same-bits (inf s) ticks v = absurd v
@@ -29,7 +26,7 @@ same-bits (fin s m e) ticks v =
     )
 
 -- a double that has a value is no NaN
-pub finite : (x : Float) (ticks : ℕ) → HasValue x false ticks ticksPerUnit → T (not (isNan x))
+pub finite : (x : Float) (ticks : ℕ) → IsExactly x ticks → T (not (isNan x))
 unfolding isNan
 finite nan ticks v = absurd v
 finite (inf s) ticks v = tt
