@@ -4,6 +4,7 @@ use mathlib.Core.List.{List, [], _∷_}
 use Prim.Native.Nat.{ℕ, _+_, _*_, _^_, _≤_, _<_}
 use native.Mathlib.Nat.{mul-le-mul}
 use native.Mathlib.Omega.{arith}
+use lib.ListN.{length}
 use Rattle.coefficient.specs.declared.codes.Cure.{Cure}
 use Rattle.coefficient.specs.declared.codes.Concrete.{Concrete}
 use Rattle.coefficient.proofs.Laws.{ucr-range, scf-range, mcf-range, ush-range, ssf-range}
@@ -12,11 +13,11 @@ use Rattle.fields.specs.Quantities.{Age, agesOf, ownWeightMoment}
 use Rattle.member.specs.Constants.{wholeCreep, wholeShrinkage}
 use Rattle.member.specs.declared.Checked.the-variants.{Accepted}
 use Rattle.checks.specs.Readable.{Readable}
-use Rattle.checks.specs.Rows.{perRow}
 use Rattle.member.specs.Member.{memberOf, checkedOf}
 use Rattle.member.specs.Facts.{RisingFrom, rises, MomentsWithin, adds, Facts}
 use Rattle.member.proofs.Laws.{accepted}
 use Rattle.stages.specs.Bounds.{Bounded, AgesBounded}
+use Rattle.losses.specs.Conditions.{Runnable}
 
 -- U at the most of its three coefficients
 creep-fits : (cure : Cure) (concrete : Concrete) (ec volumeToSurface transfer : ℕ)
@@ -66,24 +67,22 @@ module _ (segments ages : ℕ) (fields : List ℕ) (report scratch : ℕ) where
         ages-fit = readable .ages-most;
       }
 
-  module _ (m : Member) (checked : checkedOf segments ages fields report scratch ≡ Accepted m) where
-    -- an accepted member's ages are those of the fields
-    pub same-ages : agesOf (m .segments) (m .ages) fields ≡ agesOf segments ages fields
-    unfolding memberOf
-    same-ages = rw (accepted segments ages fields report scratch checked .0)
+  -- an accepted member's ages are those of the fields
+  pub same-ages : (m : Member) → checkedOf segments ages fields report scratch ≡ Accepted m
+      → agesOf (m .segments) (m .ages) fields ≡ agesOf segments ages fields
+  unfolding memberOf
+  same-ages m checked = rw (accepted segments ages fields report scratch checked .0)
 
-    -- what its run requires
-    pub runs : Readable segments ages fields
-        → (Bounded m × AgesBounded (m .«own_weight_moment») (agesOf (m .segments) (m .ages) fields))
-        × ((perRow * m .ages ≤ report) × (perRow * m .ages ≤ scratch))
-    unfolding memberOf
-    runs readable =
-        let is = accepted segments ages fields report scratch checked in
-        let facts = is .1 in
-        rw (is .0) (
-          (
-            bounded facts readable,
-            ages-bounded (ownWeightMoment fields) (agesOf segments ages fields) (facts .ages-rise) (facts .moments-fit),
-          ),
-          (facts .report-room, facts .scratch-room),
-        )
+-- what an accepted member's run requires
+pub runs : (segments ages : ℕ) (fields report scratch : List ℕ) (m : Member)
+    → checkedOf segments ages fields (length report) (length scratch) ≡ Accepted m → Readable segments ages fields
+    → Runnable m (agesOf (m .segments) (m .ages) fields) report scratch
+unfolding memberOf
+runs segments ages fields report scratch m checked readable =
+    let is = accepted segments ages fields (length report) (length scratch) checked in
+    let facts = is .1 in
+    rw (is .0) (record {
+      member-bounded = bounded segments ages fields (length report) (length scratch) facts readable;
+      ages-bounded = ages-bounded (ownWeightMoment fields) (agesOf segments ages fields) (facts .ages-rise) (facts .moments-fit);
+      room = record { report-room = facts .report-room; scratch-room = facts .scratch-room };
+    })

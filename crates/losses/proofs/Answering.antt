@@ -1,7 +1,7 @@
 -- What a run answers and leaves of the two buffers, in its three ways: no stress is left before the ages, or at one of them, or all
 -- ages are passed. Assumes nothing.
 use mathlib.Core.Path.{_≡_, refl, sym, ap, _∙_}
-use mathlib.Core.List.{List, _++_}
+use mathlib.Core.List.{List}
 use Prim.Native.Nat.{ℕ, _*_, _^_, _<_}
 use native.Mathlib.Omega.{arith}
 use lib.Ieee.{Float}
@@ -10,6 +10,7 @@ use lib.Seq.{take-at}
 use Rattle.fields.specs.declared.refusal.Refusal.{Refusal}
 use Rattle.fields.specs.declared.refusal.Refusal.the-variants.{Stress as StressRefusal}
 use Rattle.member.specs.declared.Member.{Member}
+use Rattle.fields.specs.Amounts.{over}
 use Rattle.fields.specs.Quantities.{Age}
 use Rattle.checks.specs.Rows.{perRow}
 use Rattle.stages.specs.declared.Stress.{Stress}
@@ -40,7 +41,7 @@ pub last-fits : (aged : Aged) (ages stress : ℕ) (result : LastStress) (scratch
     → RanAges aged ages result scratch scratchWas → stress < 2 ^ 32
 last-fits aged ages stress result scratch scratchWas e ran =
     let passed : RanAges aged ages (Of stress) scratch scratchWas = rw e at ran in
-    let fits = passed .all-passed .0 in
+    let fits = passed .all-passed .stress-fits in
     omega arith
 
 -- a refusal 7: the report is as it was, and the scratch keeps its length
@@ -70,19 +71,19 @@ module _ (m : Member) (ages : List Age) (report scratchWas : List ℕ) where
         let gone = gone-last (aged .stress) (aged .number) age (ran .result-is) in
         refused-stress age (memberResult m ages) report scratch scratchWas (rw (sym begun, gone .0, gone .1)) (ran .kept)
 
-    pub all-passed : (stress : ℕ) (double : Float) (copied : List ℕ) → RanAges aged (m .ages) (Of stress) scratch scratchWas
-        → IsExactly double stress → copied ≡ take (perRow * m .ages) scratch ++ drop (perRow * m .ages) report
-        → Ran (memberResult m ages) (Accepted (record { before = before; last = double })) copied report scratch scratchWas
+    pub all-passed : (stress : ℕ) (double : Float) (filled : List ℕ) → RanAges aged (m .ages) (Of stress) scratch scratchWas
+        → IsExactly double stress → filled ≡ over (take (perRow * m .ages) scratch) report
+        → Ran (memberResult m ages) (Accepted (record { before = before; last = double })) filled report scratch scratchWas
     unfolding memberResult
-    all-passed stress double copied ran exactly copy =
+    all-passed stress double filled ran exactly filling =
         let left = left-last (aged .stress) (aged .number) stress (ran .result-is) in
-        let rows : length (aged .rows) ≡ perRow * m .ages = ran .all-passed .1 in
+        let rows : length (aged .rows) ≡ perRow * m .ages = ran .all-passed .rows-length in
         let front : take (perRow * m .ages) scratch ≡ aged .rows =
         ap (take (perRow * m .ages)) (ran .written)
         ∙ take-at (aged .rows) (drop (length (aged .rows)) scratchWas) (perRow * m .ages) rows in
         rw (sym begun, left) (record {
           answered = record { number-is = refl; values-are = rw (same-bits double stress exactly); double-is = exactly };
-          report-is = rw (sym rows) at (rw front at copy);
+          report-is = rw front at filling;
           scratch-kept = λ free. let never : _≡_ {A = ℕ} 0 1 = cc in absurd (omega arith);
           scratch-length = ran .kept;
         })

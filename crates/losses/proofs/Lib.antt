@@ -3,6 +3,6 @@ pub mod Readers
 mod Accepting
 mod Answering
 mod Closeness
-mod Lists
+mod BufferRows
 mod Padding
 mod Running

@@ -6,12 +6,12 @@ use Prim.Native.Nat.{ℕ, suc, _+_, _-_, _*_, _^_, _≤_, _<_}
 use native.Mathlib.Nat.{add-zero, sub-zero}
 use native.Mathlib.Numerals.{add-one}
 use native.Mathlib.Omega.{arith}
-use lib.ListN.{length, getD, drop, length-append, length-drop}
+use lib.ListN.{length, getD, drop, length-append}
 use lib.Seq.{getD-drop, drop-drop}
 use borrow.Rule.Slice.PartMut.{midOf, putMid}
 use Rattle.fields.specs.Layout.{headFields, perSegment, perAge}
 use Rattle.fields.specs.Amounts.{over}
-use Rattle.fields.proofs.Buffers.{length-over, tail, written-behind}
+use Rattle.fields.proofs.Buffers.{length-over, written-behind}
 use Rattle.member.specs.declared.Member.{Member}
 use Rattle.fields.specs.Quantities.{Age, agesFrom, agesOf}
 use Rattle.checks.specs.Rows.{perRow}
@@ -26,9 +26,11 @@ use Rattle.stages.specs.Stresses.{after}
 use Rattle.stages.specs.Bounds.{Bounded, AgesBounded}
 use Rattle.stages.specs.Ages.{Start, Aged, behind, onward, nextStart, rowOf, lossesIn, agedFrom}
 use Rattle.stages.specs.Intervals.{endAt, transferEnd, lossesBetween, passing, passed}
-use Rattle.losses.specs.RunAges.{rowBy, RanAges}
+use Rattle.losses.specs.RunAges.{RanAges}
+use Rattle.losses.specs.Conditions.{AgesRunnable}
 use Rattle.stages.specs.Run.{startOf}
 use Rattle.stages.proofs.Leaving.{left-fits}
+use Rattle.losses.proofs.BufferRows.{part-room}
 
 -- the age that stands at a field
 abbrev pub ageAt : List ℕ → ℕ → Age
@@ -44,6 +46,10 @@ unfolding agesFrom
 next-age m fields field number h =
     let count : m .ages - number ≡ suc (m .ages - (number + 1)) = omega arith in
     rw (count, getD-drop field fields 0 0, getD-drop field fields 1 0, add-zero, drop-drop)
+
+-- an age's row in the scratch
+abbrev pub rowBy : Losses → ℕ → List ℕ
+rowBy losses stress = losses .creep ∷ losses .shrinkage ∷ losses .relaxation ∷ stress ∷ []
 
 -- ---- the two ways in which passing an interval ends
 
@@ -83,25 +89,24 @@ pub record Progress (m : Member) (fields : List ℕ) (first : ℕ) (old scratch 
   pub room : perRow * m .ages ≤ length old
   pub kept : length scratch ≡ length old
 
-pub begins : (m : Member) (fields : List ℕ) (stress : ℕ) (old : List ℕ) (start : End) → Bounded m
-    → AgesBounded (m .«own_weight_moment») (agesOf (m .segments) (m .ages) fields) → stress < 2 ^ 28
-    → perRow * m .ages ≤ length old → start ≡ transferEnd m
+pub begins : (m : Member) (fields thresholds : List ℕ) (start : End) (stress : ℕ) (old : List ℕ)
+    → AgesRunnable m (agesOf (m .segments) (m .ages) fields) thresholds start stress old
     → Progress m fields stress old old stress start (headFields + perSegment * m .segments) 0 0
-begins m fields stress old start b a s r e = record {
-  member = b;
+begins m fields thresholds start stress old asked = record {
+  member = asked .member-bounded;
   within = omega arith;
   field-is = omega arith;
   at-is = omega arith;
   from = startOf m stress;
   stress-is = refl;
-  stress-fits = s;
-  start-is = e;
-  ages-bounded = rw sub-zero a;
+  stress-fits = asked .stress-fits;
+  start-is = asked .transfer-is;
+  ages-bounded = rw sub-zero (asked .ages-bounded);
   rows = [];
   so-far = rw sub-zero;
   rows-are = refl;
   written = refl;
-  room = r;
+  room = asked .scratch-room;
   kept = refl;
 }
 
@@ -122,7 +127,7 @@ module _ {m : Member} {fields : List ℕ} {first : ℕ} {old scratch : List ℕ}
       let passed : length (p .rows) ≡ perRow * m .ages = omega arith in
       record {
         result-is = rw (aged, p .stress-is);
-        all-passed = (p .stress-fits, rw (aged, append-nil) passed);
+        all-passed = record { stress-fits = p .stress-fits; rows-length = rw (aged, append-nil) passed };
         written = rw (aged, append-nil) (p .written);
         kept = p .kept;
       }
@@ -145,7 +150,7 @@ module _ {m : Member} {fields : List ℕ} {first : ℕ} {old scratch : List ℕ}
         let a = p .at-is in
         let r = p .room in
         let k = p .kept in
-        rw (tail scratch at) (simp length-drop (omega arith))
+        part-room scratch at (omega arith)
 
     module _ (end : End) (end-is : end ≡ endAt m (start .moments + getD fields (field + 1) 0) (getD fields field 0))
         (result : Passed) (result-is : result ≡ passed m stress start end) where

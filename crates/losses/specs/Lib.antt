@@ -1,3 +1,5 @@
+pub mod Rows
 pub mod RunAges
+pub mod Conditions
 pub mod Answers
 pub mod Promise

@@ -1,16 +1,11 @@
 // The losses of the ages, interval by interval, and the row of each.
-ghost use mathlib.Core.Path.{_≡_};
-ghost use Prim.Native.Nat.{_*_, _^_, _≤_, _<_};
-ghost use lib.ListN.{length};
-ghost use Rattle.logarithm.specs.Logarithm.{IsTable};
-ghost use Rattle.fields.specs.Amounts.{over};
 ghost use Rattle.fields.specs.Quantities.{agesOf};
-ghost use Rattle.checks.specs.Rows.{perRow};
-ghost use Rattle.stages.specs.Bounds.{Bounded, AgesBounded};
 ghost use Rattle.stages.specs.Ages.{agedFrom};
-ghost use Rattle.stages.specs.Intervals.{transferEnd};
-ghost use Rattle.losses.specs.RunAges.{rowBy, RanAges};
 ghost use Rattle.stages.specs.Run.{startOf};
+ghost use Rattle.losses.specs.RunAges.{RanAges};
+ghost use Rattle.losses.specs.Conditions.{AgesRunnable};
+use crate::rows;
+use crate::rows::Row;
 use checks::buffers::PER_ROW;
 use fields::layout::HEAD_FIELDS;
 use fields::layout::MOST_FIELDS;
@@ -21,7 +16,6 @@ use member::Member;
 use stages::ends;
 use stages::ends::End;
 use stages::intervals;
-use stages::intervals::Losses;
 use stages::intervals::Passed;
 
 // The stress after the last age, or the number of the age at which it is gone.
@@ -30,20 +24,9 @@ pub enum LastStress {
     GoneAt(u64),
 }
 
-// A row at the front of a part of the scratch.
-fn write_row(part: &mut [u64], losses: Losses, stress: u64)
-    requires { ⌜ perRow ≤ length (now part) ⌝ }
-    ensures { λ _. ⌜ now (part .exit) ≡ over (rowBy losses stress) (now (part .entry)) ⌝ }
-{
-    part[0] = losses.creep;
-    part[1] = losses.shrinkage;
-    part[2] = losses.relaxation;
-    part[3] = stress;
-}
-
 // The ages in turn from the stress at transfer on, each with its row in the scratch, until no stress is left. An age's moment counts
 // from its own end on.
-pub fn run_ages(
+pub(crate) fn run_ages(
     m: Member,
     thresholds: &[u32; ENTRIES],
     fields: &[u64; MOST_FIELDS],
@@ -51,9 +34,7 @@ pub fn run_ages(
     stress: u64,
     scratch: &mut [u64],
 ) -> LastStress
-    requires { ⌜ (Bounded m) × (AgesBounded (m .«own_weight_moment») (agesOf (m .segments) (m .ages) (now fields))) ⌝ }
-    requires { ⌜ (IsTable (now thresholds)) × (transfer ≡ transferEnd m) ⌝ }
-    requires { ⌜ (stress < 2 ^ 28) × (perRow * m .ages ≤ length (now scratch)) ⌝ }
+    requires { ⌜ AgesRunnable m (agesOf (m .segments) (m .ages) (now fields)) (now thresholds) transfer stress (now scratch) ⌝ }
     ensures { λ r. ⌜ RanAges (agedFrom m (startOf m stress) 0 (agesOf (m .segments) (m .ages) (now (fields .entry)))) (m .ages)
         r (now (scratch .exit)) (now (scratch .entry)) ⌝ }
 {
@@ -71,7 +52,13 @@ pub fn run_ages(
         let Passed::By(losses, left) = intervals::pass(m, stress, start, end) else {
             return LastStress::GoneAt(number);
         };
-        write_row(&mut scratch[at..], losses, left);
+        let row = Row {
+            creep: losses.creep,
+            shrinkage: losses.shrinkage,
+            relaxation: losses.relaxation,
+            stress: left,
+        };
+        rows::write_row(&mut scratch[at..], row);
         stress = left;
         start = end;
         field += PER_AGE;

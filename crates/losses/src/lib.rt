@@ -3,7 +3,8 @@ ghost use Rattle.card.specs.Card.{cardOutcome};
 ghost use Rattle.list.specs.Lists.{listOutcome};
 ghost use Rattle.losses.specs.Promise.{Promise};
 
-pub mod ages;
+mod ages;
+mod rows;
 pub mod run;
 
 use fields::layout::MOST_FIELDS;

@@ -1,19 +1,15 @@
 // The run of an accepted member, and of what a reader gives, over lent buffers.
-ghost use mathlib.Core.Path.{_≡_};
-ghost use mathlib.Core.List.{_++_};
-ghost use Prim.Native.Nat.{_*_, _≤_};
-ghost use lib.ListN.{length, take, drop};
+ghost use lib.ListN.{length};
 ghost use Rattle.fields.specs.Quantities.{agesOf};
-ghost use Rattle.checks.specs.Rows.{perRow};
 ghost use Rattle.checks.specs.Readable.{Readable, ReadableIf};
-ghost use Rattle.stages.specs.Bounds.{Bounded, AgesBounded};
 ghost use Rattle.stages.specs.Run.{memberResult, resultOfReading};
 ghost use Rattle.losses.specs.Answers.{Ran};
+ghost use Rattle.losses.specs.Conditions.{Runnable};
 use crate::Answer;
 use crate::Reply;
 use crate::ages;
 use crate::ages::LastStress;
-use checks::buffers::PER_ROW;
+use crate::rows;
 use fields::layout::MOST_FIELDS;
 use fields::refusal::Reading;
 use fields::refusal::Refusal;
@@ -23,27 +19,14 @@ use stages::Begun;
 use stages::before;
 use stages::ends;
 
-// The first numbers of a buffer, at the front of another.
-fn copy(from: &[u64], count: usize, to: &mut [u64])
-    requires { ⌜ (count ≤ length (now from)) × (count ≤ length (now to)) ⌝ }
-    ensures { λ _. ⌜ now (to .exit) ≡ take count (now (from .entry)) ++ drop count (now (to .entry)) ⌝ }
-{
-    let mut at = 0usize;
-    while at < count {
-        to[at] = from[at];
-        at += 1;
-    }
-}
-
-// The run of an accepted member. Rows are made in the scratch, and copied to the report once all ages are passed.
-pub fn run_member(
+// The run of an accepted member. Rows are made in the scratch, and go to the report once all ages are passed.
+fn run_member(
     m: Member,
     fields: &[u64; MOST_FIELDS],
     report: &mut [u64],
     scratch: &mut [u64],
 ) -> Answer
-    requires { ⌜ (Bounded m) × (AgesBounded (m .«own_weight_moment») (agesOf (m .segments) (m .ages) (now fields))) ⌝ }
-    requires { ⌜ (perRow * m .ages ≤ length (now report)) × (perRow * m .ages ≤ length (now scratch)) ⌝ }
+    requires { ⌜ Runnable m (agesOf (m .segments) (m .ages) (now fields)) (now report) (now scratch) ⌝ }
     ensures { λ r. ⌜ Ran (memberResult m (agesOf (m .segments) (m .ages) (now (fields .entry))))
         r (now (report .exit)) (now (report .entry)) (now (scratch .exit)) (now (scratch .entry)) ⌝ }
 {
@@ -56,7 +39,7 @@ pub fn run_member(
     match ages::run_ages(m, &thresholds, fields, transfer, losses.stress, scratch) {
         LastStress::GoneAt(age) => Answer::Refused(Refusal::Stress(age)),
         LastStress::Of(stress) => {
-            copy(scratch, PER_ROW * (m.ages as usize), report);
+            rows::report_rows(m.ages, scratch, report);
             Answer::Accepted(Reply {
                 before: losses,
                 last: ticks::double_of_ticks(stress as u32),
@@ -85,7 +68,7 @@ pub fn run_fields(
 }
 
 // The run of what a reader gives.
-pub fn run_reading(
+pub(crate) fn run_reading(
     reading: Reading,
     fields: &[u64; MOST_FIELDS],
     report: &mut [u64],

@@ -28,8 +28,7 @@ loop-holds : tie.Need-loop-holds Inv-loop μ-loop
 loop-holds c =
     let start = c .before in
     let args = start .args in
-    begins (args .m) (now (args .fields)) (args .stress) (now (args .scratch)) _ (start .pre .0 .0) (start .pre .0 .1)
-    (start .pre .1 .1 .0) (start .pre .1 .1 .1) (start .pre .1 .0 .1)
+    begins (args .m) (now (args .fields)) (now (args .thresholds)) (args .transfer) (args .stress) (now (args .scratch)) (start .pre)
 
 add-number : tie.Need-add-number Inv-loop μ-loop
 add-number c = search needs
@@ -68,13 +67,13 @@ add-moments-2 c = omega (arith, moments-most c)
 end-at-requires : tie.Need-end-at-requires Inv-loop μ-loop
 end-at-requires c κs =
     let start = c .before .before .before .before .before .before in
-    (start .pre .0 .0, start .pre .1 .0 .0, moments-most c)
+    (start .pre .member-bounded, start .pre .thresholds-are, moments-most c)
 
 pass-requires : tie.Need-pass-requires Inv-loop μ-loop
 pass-requires c κs =
     let loop = c .before .before .before .before .before in
     let start = loop .before .before in
-    (start .pre .0 .0, loop .loop .inv .stress-fits, rw (c .end-at .ensures) (end-bounded (start .args .m) _ _))
+    (start .pre .member-bounded, loop .loop .inv .stress-fits, rw (c .end-at .ensures) (end-bounded (start .args .m) _ _))
 
 -- the turn of the loop in which an interval is passed
 abbrev turn : tie.After-pass Inv-loop μ-loop → tie.In-loop Inv-loop μ-loop

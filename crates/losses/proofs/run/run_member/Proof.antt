@@ -1,8 +1,7 @@
--- The three ways of a run: no stress is left before the ages, or at an age, or the rows are copied to the report. Assumes nothing.
+-- The three ways of a run: no stress is left before the ages, or at an age, or the rows go to the report. Assumes nothing.
 use borrow.Author.Needs.{needs}
 use denote.Ref.{now}
 use mathlib.Core.Path.{_≡_, sym, _∙_}
-use native.Mathlib.Omega.{arith}
 use Rattle.losses.proofs.Answering.{last-fits, none-begins, none-left, all-passed}
 use Rattle.stages.proofs.Beginning.{begun-fits}
 use Rattle.losses.proofs.run.run_member.Statement.{statement}
@@ -47,8 +46,14 @@ run-ages-requires c κs =
     let pre = start told .pre in
     let transfer = told .before .before .before .before in
     let table = transfer .before .before .before in
-    let stress-fits = begun-fits _ _ (pre .0 .0) (begun told) in
-    (pre .0, ((table .thresholds .ensures, transfer .end-at .ensures), (stress-fits, pre .1 .1)))
+    record {
+      member-bounded = pre .member-bounded;
+      ages-bounded = pre .ages-bounded;
+      thresholds-are = table .thresholds .ensures;
+      transfer-is = transfer .end-at .ensures;
+      stress-fits = begun-fits _ _ (pre .member-bounded) (begun told);
+      scratch-room = pre .room .scratch-room;
+    }
 
 enum-known-age : tie.Need-enum-known-age
 enum-known-age c = search needs
@@ -56,16 +61,11 @@ enum-known-age c = search needs
 enum-known-stress : tie.Need-enum-known-stress
 enum-known-stress c = search needs
 
-mul-copy : tie.Need-mul-copy
-mul-copy c =
-    let ran = c .before .before .before .before .before .before in
-    omega (arith, start (ran .before .before .before) .pre .0 .0 .ages-fit)
-
-copy-requires : tie.Need-copy-requires
-copy-requires c κs =
+report-rows-requires : tie.Need-report-rows-requires
+report-rows-requires c κs =
     let ran = c .before .before .before .before .before .before .before in
-    let begins = start (ran .before .before .before) in
-    omega (arith, begins .pre .1, begins .pre .0 .0 .ages-fit)
+    let room = start (ran .before .before .before) .pre .room in
+    record { report-room = room .report-room; scratch-room = rw (ran .run-ages .ensures .kept) (room .scratch-room) }
 
 cast-double-of-ticks : tie.Need-cast-double-of-ticks
 cast-double-of-ticks c =
@@ -95,14 +95,14 @@ same-length-3 c = search needs
 
 returns-3 : tie.Need-returns-3
 returns-3 c =
-    let copied = c .before .before .before in
-    let ends = copied .before .before .before .before in
+    let filled = c .before .before .before in
+    let ends = filled .before .before .before .before in
     let ran = ends .before .before .before .before in
     let told = ran .before .before .before in
     let args = start told .args in
     all-passed (args .m) (agesOf (args .m .segments) (args .m .ages) (now (args .fields))) (now (args .report)) (now (args .scratch))
     _ (begun told) _ _ _ _ (rw (ends .stress .given .1) at (ran .run-ages .ensures)) (c .double-of-ticks .ensures)
-    (copied .copy .ensures)
+    (filled .report-rows .ensures)
 
 pub run-member-spec : {M : Type 1} → statement M
 run-member-spec =
@@ -117,8 +117,7 @@ run-member-spec =
     run-ages-requires
     enum-known-age
     enum-known-stress
-    mul-copy
-    copy-requires
+    report-rows-requires
     cast-double-of-ticks
     double-of-ticks-requires
     same-length

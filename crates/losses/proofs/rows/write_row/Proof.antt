@@ -3,9 +3,9 @@ use borrow.Author.Needs.{needs}
 use denote.Ref.{now}
 use lib.ListN.{length-set}
 use native.Mathlib.Omega.{arith}
-use Rattle.losses.proofs.Lists.{four}
-use Rattle.losses.proofs.ages.write_row.Statement.{statement}
-use Rattle.losses.proofs.ages.write_row.Tie as tie
+use Rattle.losses.proofs.BufferRows.{four}
+use Rattle.losses.proofs.rows.write_row.Statement.{statement}
+use Rattle.losses.proofs.rows.write_row.Tie as tie
 
 slice-write-part : tie.Need-slice-write-part
 slice-write-part c = search needs
@@ -24,8 +24,8 @@ same-length c = search needs
 
 returns : tie.Need-returns
 returns c =
-    let losses = c .args .losses in
-    four (now (c .args .part)) (losses .creep) (losses .shrinkage) (losses .relaxation) (c .args .stress) (c .pre)
+    let row = c .args .row in
+    four (now (c .args .part)) (row .creep) (row .shrinkage) (row .relaxation) (row .stress) (c .pre)
 
 pub write-row-spec : {M : Type 1} → statement M
 write-row-spec =

@@ -1,0 +1,55 @@
+// The rows of the ages in a buffer, and their way from the scratch to the report.
+ghost use mathlib.Core.Path.{_≡_};
+ghost use Prim.Native.Nat.{_*_, _≤_};
+ghost use lib.ListN.{length, take};
+ghost use Rattle.fields.specs.Amounts.{over};
+ghost use Rattle.checks.specs.Rows.{perRow};
+ghost use Rattle.losses.specs.Rows.{rowNumbers, RoomForRows};
+use checks::buffers::PER_ROW;
+
+// The losses of an age and the stress after them.
+pub struct Row {
+    pub creep: u64,
+    pub shrinkage: u64,
+    pub relaxation: u64,
+    pub stress: u64,
+}
+
+// A row at the front of the part of a buffer that begins with it.
+pub(crate) fn write_row(part: &mut [u64], row: Row)
+    requires { ⌜ perRow ≤ length (now part) ⌝ }
+    ensures { λ _. ⌜ now (part .exit) ≡ over (rowNumbers row) (now (part .entry)) ⌝ }
+{
+    part[0] = row.creep;
+    part[1] = row.shrinkage;
+    part[2] = row.relaxation;
+    part[3] = row.stress;
+}
+
+// The row at the front of the part of a buffer that begins with it.
+fn read_row(part: &[u64]) -> Row
+    requires { ⌜ perRow ≤ length (now part) ⌝ }
+    ensures { λ r. ⌜ rowNumbers r ≡ take perRow (now (part .entry)) ⌝ }
+{
+    Row {
+        creep: part[0],
+        shrinkage: part[1],
+        relaxation: part[2],
+        stress: part[3],
+    }
+}
+
+// The rows of so many ages, from the scratch to the report: the part of the report from an age's row on is lent to the row's writer.
+pub(crate) fn report_rows(ages: u64, scratch: &[u64], report: &mut [u64])
+    requires { ⌜ RoomForRows ages (now report) (now scratch) ⌝ }
+    ensures { λ _. ⌜ now (report .exit) ≡ over (take (perRow * ages) (now (scratch .entry))) (now (report .entry)) ⌝ }
+{
+    let mut at = 0usize;
+    let mut number = 0u64;
+    while number < ages {
+        let row = read_row(&scratch[at..]);
+        write_row(&mut report[at..], row);
+        at += PER_ROW;
+        number += 1;
+    }
+}
