@@ -71,7 +71,7 @@ module _ (result : Result) (ages bytes : ℕ) (numbers : List ℕ) where
       where
         by : (result : Result) → Answered result (Accepted reply) → Front result ages (room bytes) numbers
             → bytesPerNumber * (perRow * ages) ≤ bytes
-        by (reported before rows last) a f = let fits = f .1 in omega arith
+        by (reported before rows last) a f = let fits = f .report-room in omega arith
         by (refused refusal) a f = absurd (omega (arith, a .number-is, refusal-number refusal))
 
     pub run-accepted : {returned : ℕ} {report reportWas given replyWas : List ℕ}
@@ -90,5 +90,5 @@ module _ (result : Result) (ages bytes : ℕ) (numbers : List ℕ) where
               number-is = replied .returned-is;
               values-are = rw (a .values-are) at (replied .reply-is);
               double-is = rw (← same-bits (reply .last) last (a .double-is), back) (a .double-is);
-              report-is = rw (f .0) reports;
+              report-is = rw (f .rows-are) reports;
             }

@@ -135,9 +135,11 @@ module _ (segments ages : ℕ) (fields : List ℕ) where
             → after ≡ over (rowsOf result) part → Front result ages report (after ++ rest)
         front (refused refusal) e w = tt
         front (reported before rows last) e w =
-            let fit = rows-fit report scratch before rows last e in (
-              sym (ap (λ (l : List ℕ). take (perRow * ages) (l ++ rest)) w
+            let fit = rows-fit report scratch before rows last e in
+            record {
+              rows-are =
+                  sym (ap (λ (l : List ℕ). take (perRow * ages) (l ++ rest)) w
                   ∙ ap (take (perRow * ages)) (append-assoc rows (drop (length rows) part) rest)
-                  ∙ take-at rows (drop (length rows) part ++ rest) (perRow * ages) (fit .0)),
-              fit .1,
-            )
+                  ∙ take-at rows (drop (length rows) part ++ rest) (perRow * ages) (fit .0));
+              report-room = fit .1;
+            }

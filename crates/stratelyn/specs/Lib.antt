@@ -1,2 +1,2 @@
-pub mod Parts
 pub mod Hosts
+pub mod Parts

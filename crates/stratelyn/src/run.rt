@@ -1,17 +1,14 @@
 // The run of what a reader gives, answered in a host's bytes.
 ghost use mathlib.Core.Path.{_≡_};
-ghost use mathlib.Core.Bool.{not};
 ghost use Prim.Native.Nat.{_≤_};
-ghost use lib.Dec.{T};
 ghost use lib.ListN.{length};
-ghost use lib.Ieee.{isNan, binary64, toBits, ofBits};
+ghost use lib.Ieee.{binary64, toBits, ofBits};
 ghost use Rattle.fields.specs.Refusals.{number};
-ghost use Rattle.checks.specs.Readable.{Readable, ReadableIf};
 ghost use Rattle.stages.specs.Run.{resultOfReading};
 ghost use Rattle.losses.specs.Answers.{acceptanceNumber, acceptanceValues, refusalValues};
 ghost use Rattle.numbers.specs.Numbers.{room};
 ghost use Rattle.stratelyn.specs.Hosts.{replyBytes, Hosted};
-ghost use Rattle.stratelyn.specs.Parts.{mostNumbers, Rowed, Replied};
+ghost use Rattle.stratelyn.specs.Parts.{Servable, RowsRunnable, Acceptable, Rowed, Replied};
 use checks::buffers::PER_ROW;
 use fields::layout::MOST_AGES;
 use fields::layout::MOST_FIELDS;
@@ -40,7 +37,7 @@ fn refuse(refusal: Refusal, reply: &mut [u8]) -> u64
 
 // An accepted run: its number, and its values for the reply.
 fn accept(before: BeforeAges, last: f64, reply: &mut [u8]) -> u64
-    requires { ⌜ (replyBytes ≤ length (now reply)) × T (not (isNan last)) ⌝ }
+    requires { ⌜ Acceptable last (now reply) ⌝ }
     ensures { λ r. ⌜ Replied acceptanceNumber (acceptanceValues before last) r (now (reply .exit)) (now (reply .entry)) ⌝ }
     ensures { λ r. ⌜ ofBits binary64 (toBits binary64 last) ≡ last ⌝ }
 {
@@ -67,7 +64,7 @@ fn run_rows(
     scratch_bytes: usize,
     rows: &mut [u64],
 ) -> Answer
-    requires { ⌜ Readable segments ages (now fields) × (mostNumbers ≤ length (now rows)) ⌝ }
+    requires { ⌜ RowsRunnable segments ages (now fields) (now rows) ⌝ }
     ensures { λ r. ⌜ Rowed (resultOfReading (Reading.Fields segments ages) (now (fields .entry)) (room «report_bytes»)
         (room «scratch_bytes»)) ages (room «report_bytes») r (now (rows .exit)) ⌝ }
 {
@@ -92,7 +89,7 @@ fn serve_fields(
     report: &mut [u8],
     reply: &mut [u8],
 ) -> u64
-    requires { ⌜ (replyBytes ≤ length (now reply)) × Readable segments ages (now fields) ⌝ }
+    requires { ⌜ Servable (Reading.Fields segments ages) (now fields) (now reply) ⌝ }
     ensures { λ r. ⌜ Hosted (resultOfReading (Reading.Fields segments ages) (now (fields .entry))
         (room (length (now (report .entry)))) (room «scratch_bytes»))
         r (now (report .exit)) (now (report .entry)) (now (reply .exit)) (now (reply .entry)) ⌝ }
@@ -116,14 +113,14 @@ fn serve_fields(
 }
 
 // What a reader gives, answered.
-pub fn serve(
+pub(crate) fn serve(
     reading: Reading,
     fields: &[u64; MOST_FIELDS],
     scratch_bytes: usize,
     report: &mut [u8],
     reply: &mut [u8],
 ) -> u64
-    requires { ⌜ (replyBytes ≤ length (now reply)) × ReadableIf reading (now fields) ⌝ }
+    requires { ⌜ Servable reading (now fields) (now reply) ⌝ }
     ensures { λ r. ⌜ Hosted (resultOfReading reading (now (fields .entry)) (room (length (now (report .entry))))
         (room «scratch_bytes»)) r (now (report .exit)) (now (report .entry)) (now (reply .exit)) (now (reply .entry)) ⌝ }
 {

@@ -16,7 +16,10 @@ serve-requires : tie.Need-serve-requires
 serve-requires c κs =
     let read = c .before .before .before in
     let given = read .read-card .ensures in
-    (read .before .before .if1 .left, readable-if _ (card-accepted _) _ _ (given .0) (given .1))
+    record {
+      reply-room = read .before .before .if1 .left;
+      readable = readable-if _ (card-accepted _) _ _ (given .0) (given .1);
+    }
 
 same-length : tie.Need-same-length
 same-length c = search needs

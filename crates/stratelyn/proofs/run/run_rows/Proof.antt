@@ -18,7 +18,7 @@ slice-relend-prefix-run-fields c = search needs
 
 slice-aggregate-run-fields : tie.Need-slice-aggregate-run-fields
 slice-aggregate-run-fields c =
-    sym (length-take-le _ _ (room-within _ (c .before .before .room-up-to .ensures) (c .before .before .before .before .pre .1)))
+    sym (length-take-le _ _ (room-within _ (c .before .before .room-up-to .ensures) (c .before .before .before .before .pre .rows-room)))
 
 array-borrow-prefix-scratch : tie.Need-array-borrow-prefix-scratch
 array-borrow-prefix-scratch c = search needs
@@ -38,9 +38,9 @@ returns c =
     let lent = ran .before .before in
     let reached = lent .before .before in
     let start = reached .before .before in
-    let rows-fit = room-within _ (reached .room-up-to .ensures) (start .pre .1) in
+    let rows-fit = room-within _ (reached .room-up-to .ensures) (start .pre .rows-room) in
     let scratch-fit = room-within _ (lent .before .room-up-to2 .ensures) (lit≤ tt) in
-    rowed _ _ _ _ _ (start .pre .0 .ages-most) _ _ _ _ _
+    rowed _ _ _ _ _ (start .pre .readable .ages-most) _ _ _ _ _
     (length-take-le _ _ rows-fit ∙ reached .room-up-to .ensures)
     (length-take-le _ _ scratch-fit ∙ lent .before .room-up-to2 .ensures)
     (ran .run-fields .ensures)

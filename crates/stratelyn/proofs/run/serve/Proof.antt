@@ -17,7 +17,7 @@ serve-fields-requires : tie.Need-serve-fields-requires
 serve-fields-requires c κs =
     let told = c .before .before .before in
     let start = told .before .before .before .before in
-    (start .pre .0, rw (told .reading2 .given .1) at (start .pre .1))
+    record { reply-room = start .pre .reply-room; readable = rw (told .reading2 .given .1) at (start .pre .readable) }
 
 same-length : tie.Need-same-length
 same-length c = search needs

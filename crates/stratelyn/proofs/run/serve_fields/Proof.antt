@@ -38,7 +38,7 @@ count-within : (c : tie.After-known-told2) → let ran = c .before .before .befo
     perRow * ran .before .before .before .before .args .ages ≤ length (rows ran)
 count-within c =
     let ran = c .before .before .before .before in
-    let most = ran .before .before .before .before .pre .1 .ages-most in
+    let most = ran .before .before .before .before .pre .readable .ages-most in
     let size = ran .run-rows .kept .1 .1 .1 .1 .1 .0 in
     omega arith
 
@@ -46,7 +46,7 @@ slice-aggregate-run-rows : tie.Need-slice-aggregate-run-rows
 slice-aggregate-run-rows c = search needs
 
 run-rows-requires : tie.Need-run-rows-requires
-run-rows-requires c κs = (c .before .before .before .pre .1, lit≤ tt)
+run-rows-requires c κs = record { readable = c .before .before .before .pre .readable; rows-room = lit≤ tt }
 
 enum-known-refusal : tie.Need-enum-known-refusal
 enum-known-refusal c = search needs
@@ -59,7 +59,7 @@ enum-known-given c = search needs
 
 mul-count : tie.Need-mul-count
 mul-count c =
-    let most = c .before .before .before .before .before .before .before .before .pre .1 .ages-most in
+    let most = c .before .before .before .before .before .before .before .before .pre .readable .ages-most in
     record { fits = omega arith }
 
 array-share-prefix-rows : tie.Need-array-share-prefix-rows
@@ -76,7 +76,8 @@ write-numbers-requires c κs =
 accept-requires : tie.Need-accept-requires
 accept-requires c κs =
     let told = c .before .before .before .before .before .before in
-    (told .before .before .before .before .before .before .before .before .pre .0, run-finite _ _ _ _ _ (rowed told))
+    let start = told .before .before .before .before .before .before .before .before in
+    record { reply-room = start .pre .reply-room; not-nan = run-finite _ _ _ _ _ (rowed told) }
 
 same-length : tie.Need-same-length
 same-length c = search needs
