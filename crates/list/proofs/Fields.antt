@@ -3,21 +3,23 @@
 use mathlib.Core.Path.{_≡_, refl, sym, ap, _∙_}
 use mathlib.Core.Bool.{Bool, true, false, _&&_, cond, and-false, and-eq-true-iff}
 use mathlib.Core.Logic.{_⊎_, inl, inr}
-use mathlib.Core.List.{List}
+use mathlib.Core.List.{List, [], _∷_}
 use Prim.Native.Nat.{ℕ, zero, suc, _+_, _-_, _*_, _%_, _≤_, _<_}
 use native.Mathlib.Omega.{arith}
 use lib.Dec.{eqb}
 use lib.Ieee.{Float, nan}
-use lib.ListN.{getD}
+use lib.ListN.{length, getD}
 use borrow.Author.Tests.{lt-ltb, le-ltb, le-leb, lt-leb, eq-eqb, ne-eqb, eqb-true, eqb-false}
 use Rattle.ticks.specs.declared.Amount.{Amount}
 use Rattle.ticks.specs.declared.Amount.the-variants.{Of, Refused}
 use Rattle.list.specs.declared.Section.{Section}
-use Rattle.list.specs.declared.Segment.{Segment}
 use Rattle.list.specs.declared.Segment.the-variants.{Straight, Parabola, Bend}
+use Rattle.list.specs.declared.Entry.{Entry}
+use Rattle.list.specs.declared.Entry.the-variants.{Listed, Unlisted}
 use Rattle.fields.specs.Layout.{headFields, perSegment, perAge, firstSegmentField, firstAgeField}
 use Rattle.list.specs.Lists.{ticksIn, wholeIn, amountIn, headInTicks, segmentInTicks, ageInTicks, amountOf, fieldIn}
-use Rattle.list.specs.Measures.{measures, sectionOf, is, isStraight, isBend, segmentOf, lengthOf, riseOf}
+use Rattle.list.specs.Measures.{measures, sectionOf, is, isStraight, isParabola, isBend, entryOf, amountsOfEntry, inOrder, amountsBy}
+use Rattle.list.proofs.Amounts.{part-at}
 
 -- ---- the head
 
@@ -63,7 +65,17 @@ section-read list section field e low high read =
     ∙ ap (λ (s : Section). ticksIn (getD (measures s) (field - 14) nan)) e
     ∙ ap ticksIn (measure-at list (field - 14) (omega arith) ∙ ap (λ (k : ℕ). getD list k nan) place))
 
--- ---- a segment
+-- the field at `at`, as its amount is read
+pub next-of-head : (head : List Float) (at : ℕ) {amount : Amount} → at < length head
+    → amount ≡ amountIn (headInTicks (at + 1)) (fieldIn (at + 1) head) → getD (amountsBy headInTicks 1 head) at Refused ≡ amount
+next-of-head head at h read =
+    let field : 1 + at ≡ at + 1 = omega arith in
+    let place : at + 1 - 1 ≡ at = omega arith in
+    part-at headInTicks 1 head at h
+    ∙ ap (λ (f : ℕ). amountIn (headInTicks f) (getD head at nan)) field
+    ∙ sym (rw place at read)
+
+-- ---- the tests of a segment
 
 -- an amount that was read, and what the test of it gave
 pub tested : {read amount : Amount} (number : ℕ) {result b : Bool}
@@ -77,59 +89,6 @@ unless-first b e = rw e
 pub unless-second : (a : Bool) {b : Bool} → b ≡ false → (a && b) ≡ false
 unless-second a e = rw e (and-false a)
 
-is-zero : (amount : Amount) → is amount 0 ≡ true → amount ≡ Of 0
-is-zero (Of n) e = ap Of (eqb-true n 0 e)
-is-zero Refused e = absurd (let z : _≡_ {A = ℕ} 0 1 = cc in omega arith)
-
-by-form : (P : Segment → Type 0) (a b : Bool) (x y z : Segment)
-    → (a ≡ true → P x) → (b ≡ true → P y) → P z → P (cond a x (cond b y z))
-by-form P true b x y z f g h = f refl
-by-form P false true x y z f g h = g refl
-by-form P false false x y z f g h = h
-
-module _ (kind second third : Float) where
-  length-is : lengthOf (segmentOf kind second third) ≡ ticksIn second
-  length-is =
-      by-form (λ s. lengthOf s ≡ ticksIn second)
-      (isStraight kind third) (isBend kind second) (Straight second) (Bend third) (Parabola second third)
-      (λ e. refl) (λ e. sym (is-zero (ticksIn second) (and-eq-true-iff (is (wholeIn kind) 3) (is (ticksIn second) 0) .0 e .1))) refl
-
-  rise-is : riseOf (segmentOf kind second third) ≡ ticksIn third
-  rise-is =
-      by-form (λ s. riseOf s ≡ ticksIn third)
-      (isStraight kind third) (isBend kind second) (Straight second) (Bend third) (Parabola second third)
-      (λ e. sym (is-zero (ticksIn third) (and-eq-true-iff (is (wholeIn kind) 1) (is (ticksIn third) 0) .0 e .1))) (λ e. refl) refl
-
--- the doubles of the segment that a field `past` fields behind the head belongs to
-module _ (list : List Float) (past : ℕ) where
-  abbrev kind : ℕ
-  kind = headFields + past - past % perSegment
-
-  abbrev held : Segment
-  held = segmentOf (getD list kind nan) (getD list (kind + 1) nan) (getD list (kind + 2) nan)
-
-  abbrev pub Read : Amount → Type 0
-  Read amount = amount ≡ amountIn (segmentInTicks past) (getD list (headFields + past) nan)
-
-  pub kind-read : {amount : Amount} → past % perSegment ≡ 0 → amount ≡ wholeIn (getD list kind nan) → Read amount
-  kind-read part read =
-      let place : headFields + past - past % perSegment ≡ headFields + past = omega arith in
-      rw (eq-eqb (past % perSegment) 0 part) (rw place at read)
-
-  pub length-read : {amount : Amount} {segment : Segment} → past % perSegment ≡ 1 → segment ≡ held
-      → amount ≡ lengthOf segment → Read amount
-  length-read part segment read =
-      let place : kind + 1 ≡ headFields + past = omega arith in
-      rw (ne-eqb (past % perSegment) 0 (λ e. omega arith))
-      (read ∙ ap lengthOf segment ∙ length-is _ _ _ ∙ ap (λ (k : ℕ). ticksIn (getD list k nan)) place)
-
-  pub rise-read : {amount : Amount} {segment : Segment} → (past % perSegment ≡ 0 → ⊥) → (past % perSegment ≡ 1 → ⊥) → segment ≡ held
-      → amount ≡ riseOf segment → Read amount
-  rise-read not-kind not-length segment read =
-      let place : kind + 2 ≡ headFields + past = omega arith in
-      rw (ne-eqb (past % perSegment) 0 not-kind)
-      (read ∙ ap riseOf segment ∙ rise-is _ _ _ ∙ ap (λ (k : ℕ). ticksIn (getD list k nan)) place)
-
 -- ---- an age
 
 pub age-whole : (x : Float) (past : ℕ) {amount : Amount}
@@ -140,26 +99,8 @@ pub age-in-ticks : (x : Float) (past : ℕ) {amount : Amount}
     → (past % perAge ≡ 0 → ⊥) → amount ≡ ticksIn x → amount ≡ amountIn (ageInTicks past) x
 age-in-ticks x past moment read = rw (ne-eqb (past % perAge) 0 moment) read
 
--- ---- where a field stands
-
-module _ (segments : ℕ) (list : List Float) (at : ℕ) where
-  abbrev pub Is : Amount → Type 0
-  Is amount = amount ≡ amountOf segments (at + 1) (getD list at nan)
-
-  pub in-head : {amount : Amount} → at < headFields → amount ≡ amountIn (headInTicks (at + 1)) (fieldIn (at + 1) list) → Is amount
-  in-head h read =
-      let place : at + 1 - 1 ≡ at = omega arith in
-      rw (le-leb (at + 1) headFields (omega arith)) (rw place at read)
-
-  pub in-segments : {amount : Amount} → headFields ≤ at → at - headFields < perSegment * segments
-      → amount ≡ amountIn (segmentInTicks (at - headFields)) (getD list (headFields + (at - headFields)) nan) → Is amount
-  in-segments h l read =
-      let place : headFields + (at - headFields) ≡ at = omega arith in
-      let e : at + 1 - firstSegmentField ≡ at - headFields = omega arith in
-      rw (lt-leb (at + 1) headFields (omega arith), lt-ltb (at + 1) (firstAgeField segments) (omega arith), e) (rw place at read)
-
-  pub in-ages : {amount : Amount} → headFields ≤ at → perSegment * segments ≤ at - headFields
-      → amount ≡ amountIn (ageInTicks (at - headFields - perSegment * segments)) (getD list at nan) → Is amount
-  in-ages h l read =
-      let e : at + 1 - firstAgeField segments ≡ at - headFields - perSegment * segments = omega arith in
-      rw (lt-leb (at + 1) headFields (omega arith), le-ltb (at + 1) (firstAgeField segments) (omega arith), e) read
+pub next-of-ages : (part : List Float) (at : ℕ) {amount : Amount} → at < length part
+    → amount ≡ amountIn (ageInTicks at) (getD part at nan) → getD (amountsBy ageInTicks 0 part) at Refused ≡ amount
+next-of-ages part at h read =
+    let place : 0 + at ≡ at = omega arith in
+    part-at ageInTicks 0 part at h ∙ ap (λ (k : ℕ). amountIn (ageInTicks k) (getD part at nan)) place ∙ sym read

@@ -21,7 +21,7 @@ use Rattle.fields.specs.Layout.{segmentsField, agesField, headFields}
 use Rattle.fields.specs.Amounts.{numbersIn, allRead, refused, accepted}
 use Rattle.list.specs.Lists.{inTicks, amountIn, amountOf, amountsOf, withCounts, countsIn, listOutcome}
 use Rattle.fields.proofs.Accepted.{Accepted}
-use Rattle.list.proofs.Numbers.{amounts-length, amounts-at}
+use Rattle.list.proofs.Amounts.{amounts-length, amounts-at}
 use Rattle.list.proofs.Counting.{Counted, counts-accepted, no-fields}
 
 -- ---- how large a number can be

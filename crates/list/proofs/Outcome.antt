@@ -17,17 +17,12 @@ use Rattle.fields.specs.declared.refusal.Refusal.the-variants.{Doubles}
 use Rattle.fields.specs.Layout.{mostFields, headFields, perSegment}
 use Rattle.fields.specs.Amounts.{numbersIn, over}
 use Rattle.list.specs.Lists.{amountsOf, Written, countsIn, listOutcome}
-use Rattle.list.proofs.Numbers.{amounts-length}
+use Rattle.list.proofs.Amounts.{amounts-length}
+use Rattle.list.proofs.Numbers.{numbers-within}
 use Rattle.list.proofs.Counting.{counts-accepted}
 
 abbrev pub Gives : List Float → List ℕ → Reading → List ℕ → Type 0
 Gives list old reading after = (reading ≡ listOutcome list .reading) × (after ≡ over (listOutcome list .numbers) old)
-
-numbers-within : (amounts : List Amount) → length (numbersIn amounts) ≤ length amounts
-unfolding numbersIn
-numbers-within [] = omega arith
-numbers-within (Of n ∷ amounts) = let h = numbers-within amounts in omega arith
-numbers-within (Refused ∷ amounts) = omega arith
 
 -- the counts are refused
 pub counts-refused : (list : List Float) (old : List ℕ) {reading : Reading} {refusal : Refusal}

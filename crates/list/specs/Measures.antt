@@ -1,6 +1,6 @@
 -- What the doubles of a section and of a segment pass through on their way: document 01, "The section's five measures and each segment
 -- arrive as doubles." What a list gives does not depend on it. Assumes nothing.
-use Prim.Native.Nat.{ℕ}
+use Prim.Native.Nat.{ℕ, suc}
 use mathlib.Core.Bool.{Bool, false, _&&_, cond}
 use mathlib.Core.List.{List, [], _∷_}
 use lib.Dec.{eqb}
@@ -10,7 +10,10 @@ use Rattle.ticks.specs.declared.Amount.the-variants.{Of, Refused}
 use Rattle.list.specs.declared.Section.{Section}
 use Rattle.list.specs.declared.Segment.{Segment}
 use Rattle.list.specs.declared.Segment.the-variants.{Straight, Parabola, Bend}
-use Rattle.list.specs.Lists.{ticksIn, wholeIn, fieldIn}
+use Rattle.list.specs.declared.Entry.{Entry}
+use Rattle.list.specs.declared.Entry.the-variants.{Listed, Unlisted}
+use Rattle.list.specs.declared.SegmentAmounts.{SegmentAmounts}
+use Rattle.list.specs.Lists.{ticksIn, wholeIn, amountIn, fieldIn}
 
 abbrev pub measures : Section → List Float
 measures section =
@@ -32,26 +35,37 @@ abbrev pub is : Amount → ℕ → Bool
 is (Of n) number = eqb n number
 is Refused number = false
 
--- "1 straight (.. rise 0) .. 3 bend (length 0, third field the angle)"
+-- "1 straight (.. rise 0); 2 parabola ..; 3 bend (length 0, third field the angle)"
 abbrev pub isStraight : Float → Float → Bool
 isStraight kind third = is (wholeIn kind) 1 && is (ticksIn third) 0
+
+abbrev pub isParabola : Float → Bool
+isParabola kind = is (wholeIn kind) 2
 
 abbrev pub isBend : Float → Float → Bool
 isBend kind second = is (wholeIn kind) 3 && is (ticksIn second) 0
 
--- The three fields of a segment. What is no straight and no bend is held with both its measures: a parabola, or a segment that the
--- rows "doubles", "codes" and "ranges" refuse.
-abbrev pub segmentOf : Float → Float → Float → Segment
-segmentOf kind second third =
-    cond (isStraight kind third) (Straight second) (cond (isBend kind second) (Bend third) (Parabola second third))
+-- the three doubles of a segment
+abbrev pub entryOf : Float → Float → Float → Entry
+entryOf kind second third =
+    cond (isStraight kind third) (Listed (Straight second))
+    (cond (isParabola kind) (Listed (Parabola second third))
+    (cond (isBend kind second) (Listed (Bend third)) (Unlisted kind second third)))
 
--- the second and the third field of a segment
-abbrev pub lengthOf : Segment → Amount
-lengthOf (Straight length) = ticksIn length
-lengthOf (Parabola length rise) = ticksIn length
-lengthOf (Bend angle) = Of 0
+-- and back: what its three fields read
+abbrev pub amountsOfSegment : Segment → SegmentAmounts
+amountsOfSegment (Straight length) = record { kind = Of 1; length = ticksIn length; rise = Of 0 }
+amountsOfSegment (Parabola length rise) = record { kind = Of 2; length = ticksIn length; rise = ticksIn rise }
+amountsOfSegment (Bend angle) = record { kind = Of 3; length = Of 0; rise = ticksIn angle }
 
-abbrev pub riseOf : Segment → Amount
-riseOf (Straight length) = Of 0
-riseOf (Parabola length rise) = ticksIn rise
-riseOf (Bend angle) = ticksIn angle
+abbrev pub amountsOfEntry : Entry → SegmentAmounts
+amountsOfEntry (Listed segment) = amountsOfSegment segment
+amountsOfEntry (Unlisted kind second third) = record { kind = wholeIn kind; length = ticksIn second; rise = ticksIn third }
+
+abbrev pub inOrder : SegmentAmounts → List Amount
+inOrder amounts = amounts .kind ∷ amounts .length ∷ amounts .rise ∷ []
+
+-- the fields of a part of a list, the first of them numbered `field` in that part
+unfoldable pub amountsBy : (ℕ → Bool) → ℕ → List Float → List Amount
+amountsBy inTicks field [] = []
+amountsBy inTicks field (x ∷ xs) = amountIn (inTicks field) x ∷ amountsBy inTicks (suc field) xs

@@ -1,13 +1,14 @@
 // The reader of lists of doubles.
 ghost use mathlib.Core.Path.{_≡_};
-ghost use Prim.Native.Nat.{_+_, _*_, _/_, _≤_, _<_};
+ghost use Prim.Native.Nat.{_+_, _*_, _%_, _≤_, _<_};
 ghost use lib.ListN.{length, getD};
 ghost use lib.Ieee.{nan};
 ghost use Rattle.fields.specs.Layout.{headFields, perSegment};
 ghost use Rattle.fields.specs.Amounts.{over};
-ghost use Rattle.list.specs.Lists.{ticksIn, amountIn, headInTicks, segmentInTicks, ageInTicks, amountOf, fieldIn};
+ghost use Rattle.list.specs.Lists.{ticksIn, amountIn, headInTicks, segmentInTicks, ageInTicks, fieldIn};
 ghost use Rattle.list.specs.Lists.{amountsOf, Written, countsIn, listOutcome};
-ghost use Rattle.list.specs.Measures.{is, measures, sectionOf, segmentOf, lengthOf, riseOf};
+ghost use Rattle.list.specs.Measures.{is, measures, sectionOf, entryOf, amountsOfSegment, amountsOfEntry, inOrder};
+ghost use Rattle.list.specs.Measures.{amountsBy};
 use fields::layout::AGES;
 use fields::layout::HEAD_FIELDS;
 use fields::layout::LEAST_AGES;
@@ -48,6 +49,20 @@ pub enum Segment {
     Bend(f64),
 }
 
+// The three doubles of a segment: one that document 01 lists, or what is none of these, held as it came. The rows "doubles",
+// "codes" and "ranges" refuse that from the same numbers.
+pub enum Entry {
+    Listed(Segment),
+    Unlisted { kind: f64, second: f64, third: f64 },
+}
+
+// What a segment's three fields read; the third is a rise, or a bend's angle.
+pub struct SegmentAmounts {
+    pub kind: Amount,
+    pub length: Amount,
+    pub rise: Amount,
+}
+
 fn section_of(list: &[f64]) -> Section
     requires { ⌜ headFields ≤ length (now list) ⌝ }
     ensures { λ r. ⌜ r ≡ sectionOf (now (list .entry)) ⌝ }
@@ -84,42 +99,90 @@ fn is(amount: Amount, number: u64) -> bool
     }
 }
 
-// The three fields of a segment. What is no straight and no bend is held with both its measures.
-fn segment_of(kind: f64, second: f64, third: f64) -> Segment
-    ensures { λ r. ⌜ r ≡ segmentOf kind second third ⌝ }
+// A straight has no rise and a bend no length; where the doubles say otherwise, they are no segment.
+fn entry_of(kind: f64, second: f64, third: f64) -> Entry
+    ensures { λ r. ⌜ r ≡ entryOf kind second third ⌝ }
 {
-    if is(ticks::whole_of_double(kind), places::STRAIGHT) && is(ticks::ticks_of_double(third), 0) {
-        return Segment::Straight(second);
+    let code = ticks::whole_of_double(kind);
+    if is(code, places::STRAIGHT) && is(ticks::ticks_of_double(third), 0) {
+        return Entry::Listed(Segment::Straight(second));
     }
-    if is(ticks::whole_of_double(kind), places::BEND) && is(ticks::ticks_of_double(second), 0) {
-        return Segment::Bend(third);
+    if is(code, places::PARABOLA) {
+        return Entry::Listed(Segment::Parabola {
+            length: second,
+            rise: third,
+        });
     }
-    Segment::Parabola {
-        length: second,
-        rise: third,
+    if is(code, places::BEND) && is(ticks::ticks_of_double(second), 0) {
+        return Entry::Listed(Segment::Bend(third));
+    }
+    Entry::Unlisted {
+        kind,
+        second,
+        third,
     }
 }
 
-// A segment's second field, in ticks.
-fn length_of(segment: Segment) -> Amount
-    ensures { λ r. ⌜ r ≡ lengthOf segment ⌝ }
+fn amounts_of_segment(segment: Segment) -> SegmentAmounts
+    ensures { λ r. ⌜ r ≡ amountsOfSegment segment ⌝ }
 {
     match segment {
-        Segment::Straight(length) => ticks::ticks_of_double(length),
-        Segment::Parabola { length, rise: _ } => ticks::ticks_of_double(length),
-        Segment::Bend(_) => Amount::Of(0),
+        Segment::Straight(length) => SegmentAmounts {
+            kind: Amount::Of(places::STRAIGHT),
+            length: ticks::ticks_of_double(length),
+            rise: Amount::Of(0),
+        },
+        Segment::Parabola { length, rise } => SegmentAmounts {
+            kind: Amount::Of(places::PARABOLA),
+            length: ticks::ticks_of_double(length),
+            rise: ticks::ticks_of_double(rise),
+        },
+        Segment::Bend(angle) => SegmentAmounts {
+            kind: Amount::Of(places::BEND),
+            length: Amount::Of(0),
+            rise: ticks::ticks_of_double(angle),
+        },
     }
 }
 
-// A segment's third field, in ticks: a rise, or a bend's angle.
-fn rise_of(segment: Segment) -> Amount
-    ensures { λ r. ⌜ r ≡ riseOf segment ⌝ }
+fn amounts_of_entry(entry: Entry) -> SegmentAmounts
+    ensures { λ r. ⌜ r ≡ amountsOfEntry entry ⌝ }
 {
-    match segment {
-        Segment::Straight(_) => Amount::Of(0),
-        Segment::Parabola { length: _, rise } => ticks::ticks_of_double(rise),
-        Segment::Bend(angle) => ticks::ticks_of_double(angle),
+    match entry {
+        Entry::Listed(segment) => amounts_of_segment(segment),
+        Entry::Unlisted {
+            kind,
+            second,
+            third,
+        } => SegmentAmounts {
+            kind: ticks::whole_of_double(kind),
+            length: ticks::ticks_of_double(second),
+            rise: ticks::ticks_of_double(third),
+        },
     }
+}
+
+// Writes a segment's numbers up to the first field that is refused, and gives how many these are.
+fn write_segment(amounts: SegmentAmounts, fields: &mut [u64]) -> usize
+    requires { ⌜ perSegment ≤ length (now fields) ⌝ }
+    ensures { λ r. ⌜ Written (inOrder amounts) (now (fields .entry)) (now (fields .exit)) r ⌝ }
+{
+    let kind = amounts.kind;
+    let length = amounts.length;
+    let rise = amounts.rise;
+    let Amount::Of(number) = kind else {
+        return 0;
+    };
+    fields[0] = number;
+    let Amount::Of(number) = length else {
+        return 1;
+    };
+    fields[1] = number;
+    let Amount::Of(number) = rise else {
+        return 2;
+    };
+    fields[2] = number;
+    PER_SEGMENT
 }
 
 // One of fields 1 to 24.
@@ -135,21 +198,6 @@ fn head_amount(list: &[f64], section: Section, field: usize) -> Amount
     }
 }
 
-// A field of a segment, `past` fields behind the head.
-fn segment_amount(list: &[f64], past: usize) -> Amount
-    requires { ⌜ headFields + perSegment * (past / perSegment + 1) ≤ length (now list) ⌝ }
-    ensures { λ r. ⌜ r ≡ amountIn (segmentInTicks past) (getD (now (list .entry)) (headFields + past) nan) ⌝ }
-{
-    let part = past % PER_SEGMENT;
-    let kind = HEAD_FIELDS + past - part;
-    let segment = segment_of(list[kind], list[kind + 1], list[kind + 2]);
-    match part {
-        0 => ticks::whole_of_double(list[kind]),
-        1 => length_of(segment),
-        _ => rise_of(segment),
-    }
-}
-
 // A field of an age, `past` fields behind the segments.
 fn age_amount(x: f64, past: usize) -> Amount
     ensures { λ r. ⌜ r ≡ amountIn (ageInTicks past) x ⌝ }
@@ -160,38 +208,73 @@ fn age_amount(x: f64, past: usize) -> Amount
     ticks::ticks_of_double(x)
 }
 
-// What the element at `at` reads, by where it stands.
-fn amount_at(list: &[f64], section: Section, segments: usize, at: usize) -> Amount
-    requires { ⌜ (at < length (now list))
-        × ((headFields + perSegment * segments ≤ length (now list)) × (section ≡ sectionOf (now list))) ⌝ }
-    ensures { λ r. ⌜ r ≡ amountOf segments (at + 1) (getD (now (list .entry)) at nan) ⌝ }
+// Each of the following writes the numbers of a part of the list up to the first field that is refused, and gives how many these
+// are: first of the head.
+fn read_head(head: &[f64], fields: &mut [u64]) -> usize
+    requires { ⌜ (length (now head) ≡ headFields) × (headFields ≤ length (now fields)) ⌝ }
+    ensures { λ r. ⌜ Written (amountsBy headInTicks 1 (now (head .entry))) (now (fields .entry)) (now (fields .exit)) r ⌝ }
 {
-    if at < HEAD_FIELDS {
-        return head_amount(list, section, at + 1);
-    }
-    let past = at - HEAD_FIELDS;
-    let segment_fields = PER_SEGMENT * segments;
-    if past < segment_fields {
-        return segment_amount(list, past);
-    }
-    age_amount(list[at], past - segment_fields)
-}
-
-// Writes the fields up to the first that is refused, and gives how many these are.
-fn read_fields(list: &[f64], segments: usize, fields: &mut [u64]) -> usize
-    requires { ⌜ (length (now list) ≤ length (now fields)) × (headFields + perSegment * segments ≤ length (now list)) ⌝ }
-    ensures { λ r. ⌜ Written (amountsOf segments 1 (now (list .entry))) (now (fields .entry)) (now (fields .exit)) r ⌝ }
-{
-    let section = section_of(list);
+    let section = section_of(head);
     let mut at = 0usize;
-    while at < list.len() {
-        let Amount::Of(number) = amount_at(list, section, segments, at) else {
+    while at < head.len() {
+        let Amount::Of(number) = head_amount(head, section, at + 1) else {
             return at;
         };
         fields[at] = number;
         at += 1;
     }
     at
+}
+
+// Of the segments, each held as what its three doubles are.
+fn read_segments(part: &[f64], fields: &mut [u64]) -> usize
+    requires { ⌜ (length (now part) % perSegment ≡ 0) × (length (now part) ≤ length (now fields)) ⌝ }
+    ensures { λ r. ⌜ Written (amountsBy segmentInTicks 0 (now (part .entry))) (now (fields .entry)) (now (fields .exit)) r ⌝ }
+{
+    let mut at = 0usize;
+    while at < part.len() {
+        let entry = entry_of(part[at], part[at + 1], part[at + 2]);
+        let read = write_segment(amounts_of_entry(entry), &mut fields[at..]);
+        at += read;
+        if read < PER_SEGMENT {
+            return at;
+        }
+    }
+    at
+}
+
+// Of the ages.
+fn read_ages(part: &[f64], fields: &mut [u64]) -> usize
+    requires { ⌜ length (now part) ≤ length (now fields) ⌝ }
+    ensures { λ r. ⌜ Written (amountsBy ageInTicks 0 (now (part .entry))) (now (fields .entry)) (now (fields .exit)) r ⌝ }
+{
+    let mut at = 0usize;
+    while at < part.len() {
+        let Amount::Of(number) = age_amount(part[at], at) else {
+            return at;
+        };
+        fields[at] = number;
+        at += 1;
+    }
+    at
+}
+
+// Of the whole list.
+fn read_fields(list: &[f64], segments: usize, fields: &mut [u64]) -> usize
+    requires { ⌜ (length (now list) ≤ length (now fields)) × (headFields + perSegment * segments ≤ length (now list)) ⌝ }
+    ensures { λ r. ⌜ Written (amountsOf segments 1 (now (list .entry))) (now (fields .entry)) (now (fields .exit)) r ⌝ }
+{
+    let read = read_head(&list[..HEAD_FIELDS], fields);
+    if read < HEAD_FIELDS {
+        return read;
+    }
+    let first_age = HEAD_FIELDS + PER_SEGMENT * segments;
+    let read = HEAD_FIELDS
+        + read_segments(&list[HEAD_FIELDS..first_age], &mut fields[HEAD_FIELDS..]);
+    if read < first_age {
+        return read;
+    }
+    first_age + read_ages(&list[first_age..], &mut fields[first_age..])
 }
 
 // The counts of a list of the length that they ask for. Field 23 is decoded and ranged before field 24 is looked at.
