@@ -23,6 +23,11 @@ const HEAD_LINES: usize = 4;
 // The bytes of lines 1 to 4, each with its line feed. The first line of a segment, and its first field.
 const HEAD_BYTES: usize = COLUMNS * HEAD_FIELDS + HEAD_LINES;
 
+// The bytes of the longest good card.
+pub const MOST_BYTES: usize = HEAD_BYTES
+    + (COLUMNS * PER_SEGMENT + 1) * MOST_SEGMENTS
+    + (COLUMNS * PER_AGE + 1) * MOST_AGES;
+
 const SEGMENT_LINE: usize = HEAD_LINES + 1;
 
 const SEGMENT_FIELD: usize = HEAD_FIELDS + 1;

@@ -17,13 +17,13 @@ pub enum Field {
 
 pub const COLUMNS: usize = 14;
 
-const SPACE: u8 = b' ';
+pub const SPACE: u8 = b' ';
 
-const ZERO: u8 = b'0';
+pub const ZERO: u8 = b'0';
 
 const NINE: u8 = b'9';
 
-const LINE_FEED: u8 = b'\n';
+pub const LINE_FEED: u8 = b'\n';
 
 // What a blank slip reads, in ticks.
 const BLANK_SLIP: u64 = 256;

@@ -4,5 +4,5 @@ mod Accepting
 mod Answering
 mod Closeness
 mod BufferRows
-mod Padding
+pub mod Padding
 mod Running

@@ -14,7 +14,7 @@ use Rattle.member.specs.Member.{checkedOf}
 abbrev pub Same : List ℕ → List ℕ → Type 0
 Same fields others = (k : ℕ) → getD fields k 0 ≡ getD others k 0
 
-drop-same : (count : ℕ) (fields others : List ℕ) → Same fields others → Same (drop count fields) (drop count others)
+pub drop-same : (count : ℕ) (fields others : List ℕ) → Same fields others → Same (drop count fields) (drop count others)
 drop-same count fields others same k =
     getD-drop count fields k 0 ∙ same (count + k) ∙ sym (getD-drop count others k 0)
 

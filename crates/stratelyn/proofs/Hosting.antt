@@ -3,16 +3,15 @@
 use mathlib.Core.Path.{_≡_, refl, sym, _∙_}
 use mathlib.Core.Bool.{not}
 use mathlib.Core.List.{List}
-use Prim.Native.Nat.{ℕ, _*_, _≤_, _<_}
+use Prim.Native.Nat.{ℕ, _*_, _≤_}
 use native.Mathlib.Omega.{arith}
 use lib.Dec.{T}
 use lib.Ieee.{isNan, binary64, toBits, ofBits}
 use lib.ListN.{take}
 use Rattle.ticks.specs.Numbers.{bytesPerNumber}
 use Rattle.fields.specs.declared.refusal.Refusal.{Refusal}
-use Rattle.fields.specs.declared.refusal.Refusal.the-variants.{Shape, Doubles, Codes, Ranges, Hours, Duct, Buffers}
-use Rattle.fields.specs.declared.refusal.Refusal.the-variants.{Section, Creep, Stress}
 use Rattle.fields.specs.Refusals.{number}
+use Rattle.fields.proofs.Laws.{refusal-number}
 use Rattle.checks.specs.Rows.{perRow}
 use Rattle.losses.specs.declared.Reply.{Reply}
 use Rattle.losses.specs.declared.Answer.the-variants.{Accepted, Refused}
@@ -22,19 +21,6 @@ use Rattle.losses.proofs.Doubles.{same-bits, finite}
 use Rattle.numbers.specs.Numbers.{room, bytesOfNumbers, written}
 use Rattle.stratelyn.specs.Parts.{Front, Rowed, Replied}
 use Rattle.stratelyn.specs.Hosts.{Hosted}
-
--- no refusal has an accepted run's number
-refusal-number : (refusal : Refusal) → acceptanceNumber < number refusal
-refusal-number (Shape line) = omega arith
-refusal-number (Doubles field) = omega arith
-refusal-number (Codes field) = omega arith
-refusal-number (Ranges field) = omega arith
-refusal-number (Hours field) = omega arith
-refusal-number (Duct p) = omega arith
-refusal-number (Buffers p) = omega arith
-refusal-number Section = omega arith
-refusal-number Creep = omega arith
-refusal-number (Stress age) = omega arith
 
 pub hosted-refusal : (refusal : Refusal) {returned : ℕ} (report : List ℕ) {reply replyWas : List ℕ}
     → Replied (number refusal) (refusalValues refusal) returned reply replyWas

@@ -1,11 +1,11 @@
--- `printing::print_bits` is safe: a double that equals itself is no NaN, so it has bits. Assumes nothing.
+-- `cases::answers::print_bits` is safe: a double that equals itself is no NaN, so it has bits. Assumes nothing.
 use mathlib.Core.Path.{_≡_, sym}
 use mathlib.Core.Bool.{true, not, true≢false}
 use borrow.Author.Needs.{needs}
 use lib.Dec.{T}
 use lib.Ieee.{Float, nan, inf, fin, eq, isNan}
-use Rattle.printing.proofs.print_bits.Statement.{statement}
-use Rattle.printing.proofs.print_bits.Tie as tie
+use Rattle.cases.proofs.answers.print_bits.Statement.{statement}
+use Rattle.cases.proofs.answers.print_bits.Tie as tie
 
 number : (x : Float) → eq x x ≡ true → T (not (isNan x))
 unfolding isNan eq

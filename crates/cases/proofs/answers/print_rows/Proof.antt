@@ -1,10 +1,10 @@
--- `printing::print_rows` is safe and ends. The invariant ties the row to the number of ages passed, of which there are at most
+-- `cases::answers::print_rows` is safe and ends. The invariant ties the row to the number of ages passed, of which there are at most
 -- 64. The measure is the ages that are left. Assumes nothing.
 use Prim.Native.Nat.{_≤_, _-_, _*_}
 use mathlib.Core.Path.{_≡_}
 use borrow.Author.Needs.{needs}
-use Rattle.printing.proofs.print_rows.Statement.{statement}
-use Rattle.printing.proofs.print_rows.Tie as tie
+use Rattle.cases.proofs.answers.print_rows.Statement.{statement}
+use Rattle.cases.proofs.answers.print_rows.Tie as tie
 
 abbrev Inv-loop : tie.InvT-loop
 Inv-loop report ages row₀ age₀ row age = (age ≤ ages) × (row ≡ 4 * age)

@@ -1,8 +1,8 @@
--- `printing::print_list` is safe: a room is at most the length of the array of which a part is lent. Assumes nothing.
+-- `cases::answers::print_list` is safe: a room is at most the length of the array of which a part is lent. Assumes nothing.
 use borrow.Author.Needs.{needs}
 use Rattle.io.proofs.Counting.{front}
-use Rattle.printing.proofs.print_list.Statement.{statement}
-use Rattle.printing.proofs.print_list.Tie as tie
+use Rattle.cases.proofs.answers.print_list.Statement.{statement}
+use Rattle.cases.proofs.answers.print_list.Tie as tie
 
 room-of-requires : tie.Need-room-of-requires
 room-of-requires c κs = search needs

@@ -1,0 +1,37 @@
+-- A line of six numbers, or of all where there are fewer. Assumes nothing.
+use mathlib.Core.Path.{_≡_, sym}
+use mathlib.Core.List.{List}
+use Prim.Native.Nat.{ℕ, _<_}
+use native.Mathlib.Omega.{arith}
+use lib.ListN.{length, take}
+use lib.Seq.{length-take-le, take-all}
+use Rattle.text.specs.Conditions.{mostColumns}
+use borrow.Author.Needs.{needs}
+use Rattle.text.proofs.line_of.Statement.{statement}
+use Rattle.text.proofs.line_of.Tie as tie
+use Rattle.text.proofs.line_of.Reads as reads
+use Rattle.text.proofs.line_of.Lts as lts
+use Rattle.text.proofs.columns.put_line.Reads as put-line-reads
+
+six : (numbers : List ℕ) → mostColumns < length numbers → length (take mostColumns numbers) ≡ mostColumns
+six numbers more = length-take-le mostColumns numbers (omega arith)
+
+slice-aggregate-put-line : tie.Need-slice-aggregate-put-line
+slice-aggregate-put-line c = sym (six (c .before .before .before .before .args .numbers .now) (search needs))
+
+put-line-requires : tie.Need-put-line-requires
+put-line-requires c κs = omega (arith, six (c .before .before .before .before .args .numbers .now) (search needs))
+
+returns : tie.Need-returns
+returns c = search needs
+
+put-line-requires-2 : tie.Need-put-line-requires-2
+put-line-requires-2 c κs = search needs
+
+returns-2 : tie.Need-returns-2
+returns-2 c = rw (take-all mostColumns _ (c .before .before .if1 .left)) (c .put-line2 .ensures)
+
+pub line-of-spec : {M : Type 1} → statement M
+line-of-spec =
+    tie.close
+    (tie.spec slice-aggregate-put-line put-line-requires returns put-line-requires-2 returns-2)
