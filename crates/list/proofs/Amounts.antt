@@ -4,17 +4,17 @@
 use mathlib.Core.Path.{_≡_, refl, sym, ap, _∙_}
 use mathlib.Core.Bool.{Bool}
 use mathlib.Core.List.{List, [], _∷_, _++_}
-use Prim.Native.Nat.{ℕ, zero, suc, _+_, _-_, _*_, _≤_, _<_}
+use Prim.Native.Nat.{ℕ, zero, suc, _+_, _-_, _*_, _<_}
 use native.Mathlib.Nat.{le-of-suc-le-suc, not-suc-le-zero}
 use native.Mathlib.Omega.{arith}
 use lib.Ieee.{Float, nan}
 use lib.ListN.{length, getD, length-append}
 use borrow.Author.Tests.{lt-ltb, le-ltb, le-leb, lt-leb}
 use Rattle.ticks.specs.declared.Amount.{Amount}
-use Rattle.ticks.specs.declared.Amount.the-variants.{Of, Refused}
+use Rattle.ticks.specs.declared.Amount.the-variants.{Refused}
 use Rattle.fields.specs.Layout.{headFields, perSegment, firstSegmentField, firstAgeField}
 use Rattle.list.specs.Lists.{inTicks, headInTicks, segmentInTicks, ageInTicks, amountIn, amountOf, amountsOf}
-use Rattle.list.specs.Measures.{amountsBy}
+use Rattle.list.specs.Measures.{amountsBy, headAmounts, segmentsAmounts, agesAmounts}
 
 -- ---- of a part
 
@@ -56,10 +56,10 @@ alike ticks kept field past (x ∷ xs) same =
     let f : past + 0 ≡ past = omega arith in
     let first : ticks field ≡ kept past = rw (e, f) at (same 0 (omega arith)) in
     ap (λ (b : Bool). amountIn b x ∷ amountsBy ticks (suc field) xs) first
-    ∙ ap (λ (l : List Amount). amountIn (kept past) x ∷ l) (alike ticks kept (suc field) (suc past) xs (later first))
+    ∙ ap (λ (l : List Amount). amountIn (kept past) x ∷ l) (alike ticks kept (suc field) (suc past) xs later)
   where
-    later : ticks field ≡ kept past → (k : ℕ) → k < length xs → ticks (suc field + k) ≡ kept (suc past + k)
-    later first k h =
+    later : (k : ℕ) → k < length xs → ticks (suc field + k) ≡ kept (suc past + k)
+    later k h =
         let e : field + suc k ≡ suc field + k = omega arith in
         let f : past + suc k ≡ suc past + k = omega arith in
         rw (e, f) at (same (suc k) (omega arith))
@@ -100,8 +100,7 @@ module _ (segments : ℕ) where
       )
 
   module _ (head part ages : List Float) (full : length head ≡ headFields) (whole : length part ≡ perSegment * segments) where
-    pub by-parts : amountsOf segments 1 ((head ++ part) ++ ages)
-        ≡ (amountsBy headInTicks 1 head ++ amountsBy segmentInTicks 0 part) ++ amountsBy ageInTicks 0 ages
+    pub by-parts : amountsOf segments 1 ((head ++ part) ++ ages) ≡ (headAmounts head ++ segmentsAmounts part) ++ agesAmounts ages
     by-parts =
         let place : 1 + length head ≡ firstSegmentField = omega arith in
         let behind : 1 + length (head ++ part) ≡ firstAgeField segments = simp length-append (omega arith) in

@@ -1,24 +1,21 @@
--- How the fields of a list are kept, field by field, as the code's tests find them: those of the head, the section's five measures,
--- a segment's two, and where segments and ages stand. Each follows from the tests that lead to it. Assumes nothing.
+-- How the fields of the head and of the ages are kept, as the code's tests find them: the section's five measures among them. Each
+-- follows from the tests that lead to it. Assumes nothing.
 use mathlib.Core.Path.{_≡_, refl, sym, ap, _∙_}
-use mathlib.Core.Bool.{Bool, true, false, _&&_, cond, and-false, and-eq-true-iff}
+use mathlib.Core.Bool.{Bool, true, false}
 use mathlib.Core.Logic.{_⊎_, inl, inr}
-use mathlib.Core.List.{List, [], _∷_}
-use Prim.Native.Nat.{ℕ, zero, suc, _+_, _-_, _*_, _%_, _≤_, _<_}
+use mathlib.Core.List.{List}
+use Prim.Native.Nat.{ℕ, zero, suc, _+_, _-_, _%_, _≤_, _<_}
 use native.Mathlib.Omega.{arith}
 use lib.Dec.{eqb}
 use lib.Ieee.{Float, nan}
 use lib.ListN.{length, getD}
-use borrow.Author.Tests.{lt-ltb, le-ltb, le-leb, lt-leb, eq-eqb, ne-eqb, eqb-true, eqb-false}
+use borrow.Author.Tests.{le-leb, lt-leb, eq-eqb, ne-eqb, eqb-false}
 use Rattle.ticks.specs.declared.Amount.{Amount}
-use Rattle.ticks.specs.declared.Amount.the-variants.{Of, Refused}
+use Rattle.ticks.specs.declared.Amount.the-variants.{Refused}
 use Rattle.list.specs.declared.Section.{Section}
-use Rattle.list.specs.declared.Segment.the-variants.{Straight, Parabola, Bend}
-use Rattle.list.specs.declared.Entry.{Entry}
-use Rattle.list.specs.declared.Entry.the-variants.{Listed, Unlisted}
-use Rattle.fields.specs.Layout.{headFields, perSegment, perAge, firstSegmentField, firstAgeField}
-use Rattle.list.specs.Lists.{ticksIn, wholeIn, amountIn, headInTicks, segmentInTicks, ageInTicks, amountOf, fieldIn}
-use Rattle.list.specs.Measures.{measures, sectionOf, is, isStraight, isParabola, isBend, entryOf, amountsOfEntry, inOrder, amountsBy}
+use Rattle.fields.specs.Layout.{perAge}
+use Rattle.list.specs.Lists.{ticksIn, wholeIn, amountIn, headInTicks, ageInTicks, fieldIn}
+use Rattle.list.specs.Measures.{measures, sectionOf, headAmounts, agesAmounts}
 use Rattle.list.proofs.Amounts.{part-at}
 
 -- ---- the head
@@ -67,27 +64,13 @@ section-read list section field e low high read =
 
 -- the field at `at`, as its amount is read
 pub next-of-head : (head : List Float) (at : ℕ) {amount : Amount} → at < length head
-    → amount ≡ amountIn (headInTicks (at + 1)) (fieldIn (at + 1) head) → getD (amountsBy headInTicks 1 head) at Refused ≡ amount
+    → amount ≡ amountIn (headInTicks (at + 1)) (fieldIn (at + 1) head) → getD (headAmounts head) at Refused ≡ amount
 next-of-head head at h read =
     let field : 1 + at ≡ at + 1 = omega arith in
     let place : at + 1 - 1 ≡ at = omega arith in
     part-at headInTicks 1 head at h
     ∙ ap (λ (f : ℕ). amountIn (headInTicks f) (getD head at nan)) field
     ∙ sym (rw place at read)
-
--- ---- the tests of a segment
-
--- an amount that was read, and what the test of it gave
-pub tested : {read amount : Amount} (number : ℕ) {result b : Bool}
-    → result ≡ is read number → read ≡ amount → result ≡ b → is amount number ≡ b
-tested number r a b = ap (λ (x : Amount). is x number) (sym a) ∙ sym r ∙ b
-
--- a test of two parts fails where one of them does
-pub unless-first : {a : Bool} (b : Bool) → a ≡ false → (a && b) ≡ false
-unless-first b e = rw e
-
-pub unless-second : (a : Bool) {b : Bool} → b ≡ false → (a && b) ≡ false
-unless-second a e = rw e (and-false a)
 
 -- ---- an age
 
@@ -100,7 +83,7 @@ pub age-in-ticks : (x : Float) (past : ℕ) {amount : Amount}
 age-in-ticks x past moment read = rw (ne-eqb (past % perAge) 0 moment) read
 
 pub next-of-ages : (part : List Float) (at : ℕ) {amount : Amount} → at < length part
-    → amount ≡ amountIn (ageInTicks at) (getD part at nan) → getD (amountsBy ageInTicks 0 part) at Refused ≡ amount
+    → amount ≡ amountIn (ageInTicks at) (getD part at nan) → getD (agesAmounts part) at Refused ≡ amount
 next-of-ages part at h read =
     let place : 0 + at ≡ at = omega arith in
     part-at ageInTicks 0 part at h ∙ ap (λ (k : ℕ). amountIn (ageInTicks k) (getD part at nan)) place ∙ sym read

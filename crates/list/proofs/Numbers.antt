@@ -3,7 +3,7 @@
 -- one number more. And fields read in two parts, the second into what is left of the buffer. Assumes nothing.
 use mathlib.Core.Path.{_≡_, refl, sym, ap, _∙_}
 use mathlib.Core.List.{List, [], _∷_, _++_, append-assoc, append-nil}
-use Prim.Native.Nat.{ℕ, zero, suc, _+_, _-_, _≤_, _<_}
+use Prim.Native.Nat.{ℕ, suc, _+_, _-_, _≤_, _<_}
 use native.Mathlib.Numerals.{add-one}
 use native.Mathlib.Omega.{arith}
 use lib.ListN.{length, getD, take, drop, set, length-append, length-set}
@@ -88,6 +88,9 @@ numbers-cut (Of n ∷ xs) ys h = ap (λ (l : List ℕ). n ∷ l) (numbers-cut xs
 numbers-cut (Refused ∷ xs) ys h = refl
 
 module _ (xs : List Amount) (old : List ℕ) {now : List ℕ} {read : ℕ} (w : Written xs old now read) where
+  pub count-within : read ≤ length xs
+  count-within = let count = w .0 in let within = numbers-within xs in omega arith
+
   pub kept : length xs ≤ length old → length now ≡ length old
   kept h = let within = numbers-within xs in ap length (w .1) ∙ length-over (numbersIn xs) old (omega arith)
 

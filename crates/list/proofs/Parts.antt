@@ -10,14 +10,17 @@ use lib.Seq.{take-add, take-all, length-take-le}
 use borrow.Rule.Slice.PartMut.{midOf, putMid}
 use Rattle.ticks.specs.declared.Amount.{Amount}
 use Rattle.fields.specs.Layout.{headFields, perSegment}
-use Rattle.list.specs.Lists.{headInTicks, segmentInTicks, ageInTicks, amountsOf, Written}
-use Rattle.list.specs.Measures.{amountsBy}
-use Rattle.list.proofs.Amounts.{part-length, by-parts}
-use Rattle.list.proofs.Numbers.{numbers-within, cut, joined}
+use Rattle.list.specs.Lists.{headInTicks, segmentInTicks, amountsOf, Written}
+use Rattle.list.specs.Measures.{headAmounts, segmentsAmounts, agesAmounts}
+use Rattle.list.proofs.Amounts.{part-length, amounts-length, by-parts}
+use Rattle.list.proofs.Numbers.{count-within, cut, joined}
 
--- where the ages begin, and the doubles of segments and of ages
+-- where the ages begin, and the doubles of the head, of the segments and of the ages
 abbrev pub firstAge : ℕ → ℕ
 firstAge segments = headFields + perSegment * segments
+
+abbrev pub headIn : List Float → List Float
+headIn list = take headFields list
 
 abbrev pub segmentsIn : ℕ → List Float → List Float
 segmentsIn segments list = take (firstAge segments - headFields) (drop headFields list)
@@ -25,96 +28,78 @@ segmentsIn segments list = take (firstAge segments - headFields) (drop headField
 abbrev pub agesIn : ℕ → List Float → List Float
 agesIn segments list = take (length list - firstAge segments) (drop (firstAge segments) list)
 
-abbrev pub headAmounts : List Float → List Amount
-headAmounts list = amountsBy headInTicks 1 (take headFields list)
-
-abbrev pub segmentAmounts : ℕ → List Float → List Amount
-segmentAmounts segments list = amountsBy segmentInTicks 0 (segmentsIn segments list)
-
-abbrev pub ageAmounts : ℕ → List Float → List Amount
-ageAmounts segments list = amountsBy ageInTicks 0 (agesIn segments list)
+-- the amounts before those of the ages
+abbrev pub beforeAges : ℕ → List Float → List Amount
+beforeAges segments list = headAmounts (headIn list) ++ segmentsAmounts (segmentsIn segments list)
 
 module _ (list : List Float) (segments : ℕ) (enough : firstAge segments ≤ length list) where
   -- ---- the parts make up the list
 
-  pub head-long : length (take headFields list) ≡ headFields
-  head-long = length-take-le headFields list (omega arith)
+  pub head-length : length (headIn list) ≡ headFields
+  head-length = length-take-le headFields list (omega arith)
 
-  segments-long : length (segmentsIn segments list) ≡ perSegment * segments
-  segments-long =
+  segments-length : length (segmentsIn segments list) ≡ perSegment * segments
+  segments-length =
       let fields : firstAge segments - headFields ≡ perSegment * segments = omega arith in
       length-take-le (firstAge segments - headFields) (drop headFields list) (simp length-drop (omega arith)) ∙ fields
 
-  made-up : (take headFields list ++ segmentsIn segments list) ++ agesIn segments list ≡ list
+  made-up : (headIn list ++ segmentsIn segments list) ++ agesIn segments list ≡ list
   made-up =
       let fields : headFields + (firstAge segments - headFields) ≡ firstAge segments = omega arith in
-      let front : take headFields list ++ segmentsIn segments list ≡ take (firstAge segments) list =
+      let front : headIn list ++ segmentsIn segments list ≡ take (firstAge segments) list =
       sym (take-add headFields (firstAge segments - headFields) list) ∙ ap (λ (k : ℕ). take k list) fields in
       let ages = take-all (length list - firstAge segments) (drop (firstAge segments) list) (simp length-drop (omega arith)) in
       rw (front, ages) (take-append-drop (firstAge segments) list)
 
-  made-of : (headAmounts list ++ segmentAmounts segments list) ++ ageAmounts segments list ≡ amountsOf segments 1 list
+  made-of : beforeAges segments list ++ agesAmounts (agesIn segments list) ≡ amountsOf segments 1 list
   made-of =
-      sym (by-parts segments (take headFields list) (segmentsIn segments list) (agesIn segments list) head-long segments-long)
+      sym (by-parts segments (headIn list) (segmentsIn segments list) (agesIn segments list) head-length segments-length)
       ∙ ap (amountsOf segments 1) made-up
 
-  heads : length (headAmounts list) ≡ headFields
-  heads = part-length headInTicks 1 (take headFields list) ∙ head-long
+  head-count : length (headAmounts (headIn list)) ≡ headFields
+  head-count = part-length headInTicks 1 (headIn list) ∙ head-length
 
-  those-of-segments : length (segmentAmounts segments list) ≡ perSegment * segments
-  those-of-segments = part-length segmentInTicks 0 (segmentsIn segments list) ∙ segments-long
-
-  before-ages : length (headAmounts list ++ segmentAmounts segments list) ≡ firstAge segments
-  before-ages =
-      let h = heads in
-      let s = those-of-segments in
-      length-append (headAmounts list) (segmentAmounts segments list) ∙ omega arith
+  before-ages-count : length (beforeAges segments list) ≡ firstAge segments
+  before-ages-count =
+      let head = head-count in
+      let behind = part-length segmentInTicks 0 (segmentsIn segments list) ∙ segments-length in
+      length-append (headAmounts (headIn list)) (segmentsAmounts (segmentsIn segments list)) ∙ omega arith
 
   -- ---- the ways out
 
-  module _ (old : List ℕ) {now : List ℕ} {read : ℕ} (head : Written (headAmounts list) old now read) where
-    pub head-refused : read < headFields → Written (amountsOf segments 1 list) old now read
-    head-refused h =
-        let long = heads in
-        let longer = before-ages in
+  module _ (old : List ℕ) {now : List ℕ} {read : ℕ} where
+    -- a field before the ages is refused
+    pub before-ages-refused : Written (beforeAges segments list) old now read → read < firstAge segments
+        → Written (amountsOf segments 1 list) old now read
+    before-ages-refused w h =
+        let count = before-ages-count in
+        rw (← made-of) (cut (beforeAges segments list) old w (agesAmounts (agesIn segments list)) (omega arith))
+
+    pub head-refused : Written (headAmounts (headIn list)) old now read → read < headFields
+        → Written (amountsOf segments 1 list) old now read
+    head-refused w h =
+        let count = head-count in
+        before-ages-refused (cut (headAmounts (headIn list)) old w (segmentsAmounts (segmentsIn segments list)) (omega arith)) (omega arith)
+
+    pub segments-written : {part : List ℕ} {more : ℕ} → Written (headAmounts (headIn list)) old now read → headFields ≤ read
+        → Written (segmentsAmounts (segmentsIn segments list)) (midOf headFields (length now - headFields) now) part more
+        → Written (beforeAges segments list) old (putMid headFields (length now - headFields) now part) (headFields + more)
+    segments-written w all v =
+        joined (headAmounts (headIn list)) old w (segmentsAmounts (segmentsIn segments list)) headFields head-count all v
+
+    pub segment-within : Written (beforeAges segments list) old now read → read ≤ firstAge segments
+    segment-within w = let count = before-ages-count in let within = count-within (beforeAges segments list) old w in omega arith
+
+    pub ages-written : {part : List ℕ} {more : ℕ} → Written (beforeAges segments list) old now read → firstAge segments ≤ read
+        → Written (agesAmounts (agesIn segments list)) (midOf (firstAge segments) (length now - firstAge segments) now) part more
+        → Written (amountsOf segments 1 list) old
+        (putMid (firstAge segments) (length now - firstAge segments) now part) (firstAge segments + more)
+    ages-written w all v =
         rw (← made-of)
-        (cut (headAmounts list ++ segmentAmounts segments list) old
-        (cut (headAmounts list) old head (segmentAmounts segments list) (omega arith)) (ageAmounts segments list) (omega arith))
+        (joined (beforeAges segments list) old w (agesAmounts (agesIn segments list)) (firstAge segments) before-ages-count all v)
 
-    module _ (all : headFields ≤ read) {part : List ℕ} {more : ℕ}
-        (w : Written (segmentAmounts segments list) (midOf headFields (length now - headFields) now) part more) where
-      abbrev then : List ℕ
-      then = putMid headFields (length now - headFields) now part
-
-      pub few-segments : more ≤ perSegment * segments
-      few-segments =
-          let long = those-of-segments in
-          let within = numbers-within (segmentAmounts segments list) in
-          let count = w .0 in
-          omega arith
-
-      up-to-ages : Written (headAmounts list ++ segmentAmounts segments list) old then (headFields + more)
-      up-to-ages = joined (headAmounts list) old head (segmentAmounts segments list) headFields heads all w
-
-      pub segment-refused : headFields + more < firstAge segments → Written (amountsOf segments 1 list) old then (headFields + more)
-      segment-refused h =
-          let long = before-ages in
-          rw (← made-of)
-          (cut (headAmounts list ++ segmentAmounts segments list) old up-to-ages (ageAmounts segments list) (omega arith))
-
-      module _ (all-segments : firstAge segments ≤ headFields + more) {last : List ℕ} {rest : ℕ}
-          (a : Written (ageAmounts segments list) (midOf (firstAge segments) (length then - firstAge segments) then) last rest) where
-        pub few-ages : rest ≤ length list - firstAge segments
-        few-ages =
-            let ages = take-all (length list - firstAge segments) (drop (firstAge segments) list) (simp length-drop (omega arith)) in
-            let long = part-length ageInTicks 0 (agesIn segments list) ∙ ap length ages ∙ length-drop (firstAge segments) list in
-            let within = numbers-within (ageAmounts segments list) in
-            let count = a .0 in
-            omega arith
-
-        pub ages-written : Written (amountsOf segments 1 list) old
-            (putMid (firstAge segments) (length then - firstAge segments) then last) (firstAge segments + rest)
-        ages-written =
-            rw (← made-of)
-            (joined (headAmounts list ++ segmentAmounts segments list) old up-to-ages (ageAmounts segments list)
-            (firstAge segments) before-ages all-segments a)
+    pub age-within : Written (amountsOf segments 1 list) old now read → read ≤ length list
+    age-within w =
+        let count = amounts-length segments 1 list in
+        let within = count-within (amountsOf segments 1 list) old w in
+        omega arith

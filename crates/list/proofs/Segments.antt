@@ -2,9 +2,9 @@
 -- themselves: a segment's form keeps each of them or stands for its only number. So a segment that is read is three fields more.
 -- Assumes nothing.
 use mathlib.Core.Path.{_≡_, refl, sym, ap, _∙_}
-use mathlib.Core.Bool.{Bool, true, false, _&&_, cond, and-eq-true-iff}
+use mathlib.Core.Bool.{Bool, true, false, _&&_, cond, and-false, and-eq-true-iff}
 use mathlib.Core.List.{List, [], _∷_, _++_}
-use Prim.Native.Nat.{ℕ, zero, suc, _+_, _-_, _%_, _≤_, _<_}
+use Prim.Native.Nat.{ℕ, suc, _+_, _-_, _%_, _≤_, _<_}
 use native.Mathlib.Omega.{arith}
 use lib.Ieee.{Float, nan}
 use lib.ListN.{length, getD, take, drop, length-drop, take-append-drop}
@@ -21,11 +21,41 @@ use Rattle.list.specs.declared.Entry.{Entry}
 use Rattle.list.specs.declared.Entry.the-variants.{Listed, Unlisted}
 use Rattle.list.specs.declared.SegmentAmounts.{SegmentAmounts}
 use Rattle.list.specs.Lists.{ticksIn, wholeIn, segmentInTicks, Written}
-use Rattle.list.specs.Measures.{is, isStraight, isParabola, isBend, entryOf, amountsOfEntry, inOrder, amountsBy}
+use Rattle.list.specs.Measures.{is, isStraight, isParabola, isBend, entryOf, amountsOfEntry, inOrder, amountsBy, segmentsAmounts}
 use Rattle.list.proofs.Amounts.{part-length, part-append}
-use Rattle.list.proofs.Numbers.{numbers-within, kept, cut, joined}
+use Rattle.list.proofs.Numbers.{count-within, kept, cut, joined}
 
--- ---- what a segment's three doubles are held as
+-- ---- the tests of a segment's three doubles
+
+-- an amount that was read, and what the test of it gave
+pub tested : {read amount : Amount} (number : ℕ) {result b : Bool}
+    → result ≡ is read number → read ≡ amount → result ≡ b → is amount number ≡ b
+tested number r a b = ap (λ (x : Amount). is x number) (sym a) ∙ sym r ∙ b
+
+-- a test of two parts fails where one of them does
+pub unless-first : {a : Bool} (b : Bool) → a ≡ false → (a && b) ≡ false
+unless-first b e = rw e
+
+pub unless-second : (a : Bool) {b : Bool} → b ≡ false → (a && b) ≡ false
+unless-second a e = rw e (and-false a)
+
+-- what the doubles are held as, by the tests that lead there
+module _ (kind second third : Float) where
+  pub straight : is (wholeIn kind) 1 ≡ true → is (ticksIn third) 0 ≡ true → Listed (Straight second) ≡ entryOf kind second third
+  straight code rise = rw (code, rise)
+
+  module _ (not-straight : isStraight kind third ≡ false) where
+    pub parabola : isParabola kind ≡ true → Listed (Parabola second third) ≡ entryOf kind second third
+    parabola code = rw (not-straight, code)
+
+    module _ (not-parabola : isParabola kind ≡ false) where
+      pub bend : is (wholeIn kind) 3 ≡ true → is (ticksIn second) 0 ≡ true → Listed (Bend third) ≡ entryOf kind second third
+      bend code length = rw (not-straight, not-parabola, code, length)
+
+      pub unlisted : isBend kind second ≡ false → Unlisted kind second third ≡ entryOf kind second third
+      unlisted not-bend = rw (not-straight, not-parabola, not-bend)
+
+-- ---- what they then read
 
 is-number : (amount : Amount) (number : ℕ) → is amount number ≡ true → amount ≡ Of number
 is-number (Of n) number e = ap Of (eqb-true n number e)
@@ -64,7 +94,7 @@ pub record Passed (part : List Float) (old now : List ℕ) (at : ℕ) : Type 0 w
   pub whole : at % perSegment ≡ 0
   pub within : at ≤ length part
   pub same : length now ≡ length old
-  pub read : Written (amountsBy segmentInTicks 0 (take at part)) old now at
+  pub read : Written (segmentsAmounts (take at part)) old now at
 
 pub begins : (part : List Float) (old : List ℕ) → length part % perSegment ≡ 0 → length part ≤ length old → Passed part old old 0
 unfolding numbersIn amountsBy
@@ -72,7 +102,7 @@ begins part old segments room =
     record { segments = segments; room = room; whole = refl; within = omega arith; same = refl; read = (refl, refl) }
 
 module _ {part : List Float} {old now : List ℕ} {at : ℕ} (p : Passed part old now at) where
-  pub ends : length part ≤ at → Written (amountsBy segmentInTicks 0 part) old now at
+  pub ends : length part ≤ at → Written (segmentsAmounts part) old now at
   ends h = rw (take-all at part h) at (p .read)
 
   -- the next segment, as it is held
@@ -87,8 +117,8 @@ module _ {part : List Float} {old now : List ℕ} {at : ℕ} (p : Passed part ol
         let s = p .same in
         rw (tail now at) (simp length-drop (omega arith))
 
-    three : take perSegment (drop at part) ≡ getD part at nan ∷ getD part (at + 1) nan ∷ getD part (at + 2) nan ∷ []
-    three =
+    next-three : take perSegment (drop at part) ≡ getD part at nan ∷ getD part (at + 1) nan ∷ getD part (at + 2) nan ∷ []
+    next-three =
         let i = inside in
         let third : suc (suc at) ≡ at + 2 = omega arith in
         let second : suc at ≡ at + 1 = omega arith in
@@ -102,59 +132,59 @@ module _ {part : List Float} {old now : List ℕ} {at : ℕ} (p : Passed part ol
 
     module _ {entry : Entry} {amounts : SegmentAmounts}
         (held : entry ≡ entryOf (getD part at nan) (getD part (at + 1) nan) (getD part (at + 2) nan))
-        (is : amounts ≡ amountsOfEntry entry) where
+        (amounts-are : amounts ≡ amountsOfEntry entry) where
       fields-read : amountsBy segmentInTicks at (take perSegment (drop at part)) ≡ inOrder amounts
       unfolding amountsBy
       fields-read =
           let w = p .whole in
           rw (
-            three,
+            next-three,
             eq-eqb (at % perSegment) 0 w,
             ne-eqb (suc at % perSegment) 0 (λ e. omega arith),
             ne-eqb (suc (suc at) % perSegment) 0 (λ e. omega arith),
           )
-          (sym (ap inOrder is ∙ ap (λ (e : Entry). inOrder (amountsOfEntry e)) held ∙ entry-reads _ _ _))
+          (sym (ap inOrder amounts-are ∙ ap (λ (e : Entry). inOrder (amountsOfEntry e)) held ∙ entry-reads _ _ _))
 
-      front : amountsBy segmentInTicks 0 (take (at + perSegment) part) ≡ amountsBy segmentInTicks 0 (take at part) ++ inOrder amounts
+      front : segmentsAmounts (take (at + perSegment) part) ≡ segmentsAmounts (take at part) ++ inOrder amounts
       front =
           let long = length-take-le at part (p .within) in
           let place : 0 + length (take at part) ≡ at = omega arith in
-          ap (amountsBy segmentInTicks 0) (take-add at perSegment part)
+          ap segmentsAmounts (take-add at perSegment part)
           ∙ part-append segmentInTicks 0 (take at part) (take perSegment (drop at part))
-          ∙ ap (λ (k : ℕ). amountsBy segmentInTicks 0 (take at part) ++ amountsBy segmentInTicks k (take perSegment (drop at part)))
+          ∙ ap (λ (k : ℕ). segmentsAmounts (take at part) ++ amountsBy segmentInTicks k (take perSegment (drop at part)))
           place
-          ∙ ap (λ (l : List Amount). amountsBy segmentInTicks 0 (take at part) ++ l) fields-read
+          ∙ ap (λ (l : List Amount). segmentsAmounts (take at part) ++ l) fields-read
 
       module _ {buffer : List ℕ} {read : ℕ} (written : Written (inOrder amounts) (midOf at (length now - at) now) buffer read) where
-        abbrev then : List ℕ
-        then = putMid at (length now - at) now buffer
+        abbrev after : List ℕ
+        after = putMid at (length now - at) now buffer
 
         pub few : read ≤ perSegment
-        few = let w = numbers-within (inOrder amounts) in let e = written .0 in omega arith
+        few = count-within (inOrder amounts) (midOf at (length now - at) now) written
 
-        both-read : Written (amountsBy segmentInTicks 0 (take (at + perSegment) part)) old then (at + read)
-        both-read =
+        read-with-it : Written (segmentsAmounts (take (at + perSegment) part)) old after (at + read)
+        read-with-it =
             let long = part-length segmentInTicks 0 (take at part) ∙ length-take-le at part (p .within) in
-            rw front (joined (amountsBy segmentInTicks 0 (take at part)) old (p .read) (inOrder amounts) at long (omega arith) written)
+            rw front (joined (segmentsAmounts (take at part)) old (p .read) (inOrder amounts) at long (omega arith) written)
 
-        three-more : length (amountsBy segmentInTicks 0 (take (at + perSegment) part)) ≡ at + perSegment
-        three-more = part-length segmentInTicks 0 (take (at + perSegment) part) ∙ length-take-le (at + perSegment) part inside
+        count-with-it : length (segmentsAmounts (take (at + perSegment) part)) ≡ at + perSegment
+        count-with-it = part-length segmentInTicks 0 (take (at + perSegment) part) ∙ length-take-le (at + perSegment) part inside
 
-        pub same-then : length then ≡ length old
-        same-then =
+        pub same-after : length after ≡ length old
+        same-after =
             let i = inside in
             let r = p .room in
-            let fields = three-more in
-            kept (amountsBy segmentInTicks 0 (take (at + perSegment) part)) old both-read (omega arith)
+            let fields = count-with-it in
+            kept (segmentsAmounts (take (at + perSegment) part)) old read-with-it (omega arith)
 
-        pub stops : read < perSegment → Written (amountsBy segmentInTicks 0 part) old then (at + read)
+        pub stops : read < perSegment → Written (segmentsAmounts part) old after (at + read)
         stops h =
-            let fields = three-more in
+            let fields = count-with-it in
             let split = part-append segmentInTicks 0 (take (at + perSegment) part) (drop (at + perSegment) part) in
-            let whole = ap (amountsBy segmentInTicks 0) (take-append-drop (at + perSegment) part) in
-            rw (← whole, split) (cut (amountsBy segmentInTicks 0 (take (at + perSegment) part)) old both-read _ (omega arith))
+            let whole = ap segmentsAmounts (take-append-drop (at + perSegment) part) in
+            rw (← whole, split) (cut (segmentsAmounts (take (at + perSegment) part)) old read-with-it _ (omega arith))
 
-        pub turns : perSegment ≤ read → Passed part old then (at + read)
+        pub turns : perSegment ≤ read → Passed part old after (at + read)
         turns h =
             let most = few in
             let all : at + read ≡ at + perSegment = omega arith in
@@ -165,6 +195,6 @@ module _ {part : List Float} {old now : List ℕ} {at : ℕ} (p : Passed part ol
               room = p .room;
               whole = omega arith;
               within = omega arith;
-              same = same-then;
-              read = rw all (rw all at both-read);
+              same = same-after;
+              read = rw all (rw all at read-with-it);
             }

@@ -1,5 +1,5 @@
 -- What the doubles of a section and of a segment pass through on their way: document 01, "The section's five measures and each segment
--- arrive as doubles." What a list gives does not depend on it. Assumes nothing.
+-- arrive as doubles." And the parts in which a list is read. What a list gives does not depend on any of it. Assumes nothing.
 use Prim.Native.Nat.{ℕ, suc}
 use mathlib.Core.Bool.{Bool, false, _&&_, cond}
 use mathlib.Core.List.{List, [], _∷_}
@@ -13,7 +13,9 @@ use Rattle.list.specs.declared.Segment.the-variants.{Straight, Parabola,
 use Rattle.list.specs.declared.Entry.{Entry}
 use Rattle.list.specs.declared.Entry.the-variants.{Listed, Unlisted}
 use Rattle.list.specs.declared.SegmentAmounts.{SegmentAmounts}
-use Rattle.list.specs.Lists.{ticksIn, wholeIn, amountIn, fieldIn}
+use Rattle.list.specs.Lists.{ticksIn, wholeIn, amountIn, headInTicks, segmentInTicks, ageInTicks, fieldIn}
+
+-- ---- the section
 
 abbrev pub measures : Section → List Float
 measures section =
@@ -30,6 +32,8 @@ sectionOf list =
       «own_weight_moment» = fieldIn 18 list;
     }
 
+-- ---- a segment
+
 -- an amount that is read, and is this number
 abbrev pub is : Amount → ℕ → Bool
 is (Of n) number = eqb n number
@@ -45,14 +49,15 @@ isParabola kind = is (wholeIn kind) 2
 abbrev pub isBend : Float → Float → Bool
 isBend kind second = is (wholeIn kind) 3 && is (ticksIn second) 0
 
--- the three doubles of a segment
+-- What the three doubles of a segment are held as. What is no segment keeps all three, for the rows "doubles", "codes" and "ranges"
+-- to refuse.
 abbrev pub entryOf : Float → Float → Float → Entry
 entryOf kind second third =
     cond (isStraight kind third) (Listed (Straight second))
     (cond (isParabola kind) (Listed (Parabola second third))
     (cond (isBend kind second) (Listed (Bend third)) (Unlisted kind second third)))
 
--- and back: what its three fields read
+-- what its three fields then read
 abbrev pub amountsOfSegment : Segment → SegmentAmounts
 amountsOfSegment (Straight length) = record { kind = Of 1; length = ticksIn length; rise = Of 0 }
 amountsOfSegment (Parabola length rise) = record { kind = Of 2; length = ticksIn length; rise = ticksIn rise }
@@ -65,7 +70,18 @@ amountsOfEntry (Unlisted kind second third) = record { kind = wholeIn kind; leng
 abbrev pub inOrder : SegmentAmounts → List Amount
 inOrder amounts = amounts .kind ∷ amounts .length ∷ amounts .rise ∷ []
 
--- the fields of a part of a list, the first of them numbered `field` in that part
+-- ---- the parts of a list
+
+-- the fields of a part, numbered from `field` on as `inTicks` counts them
 unfoldable pub amountsBy : (ℕ → Bool) → ℕ → List Float → List Amount
 amountsBy inTicks field [] = []
 amountsBy inTicks field (x ∷ xs) = amountIn (inTicks field) x ∷ amountsBy inTicks (suc field) xs
+
+abbrev pub headAmounts : List Float → List Amount
+headAmounts head = amountsBy headInTicks 1 head
+
+abbrev pub segmentsAmounts : List Float → List Amount
+segmentsAmounts part = amountsBy segmentInTicks 0 part
+
+abbrev pub agesAmounts : List Float → List Amount
+agesAmounts part = amountsBy ageInTicks 0 part

@@ -5,10 +5,10 @@ ghost use lib.ListN.{length, getD};
 ghost use lib.Ieee.{nan};
 ghost use Rattle.fields.specs.Layout.{headFields, perSegment};
 ghost use Rattle.fields.specs.Amounts.{over};
-ghost use Rattle.list.specs.Lists.{ticksIn, amountIn, headInTicks, segmentInTicks, ageInTicks, fieldIn};
+ghost use Rattle.list.specs.Lists.{ticksIn, amountIn, headInTicks, ageInTicks, fieldIn};
 ghost use Rattle.list.specs.Lists.{amountsOf, Written, countsIn, listOutcome};
 ghost use Rattle.list.specs.Measures.{is, measures, sectionOf, entryOf, amountsOfSegment, amountsOfEntry, inOrder};
-ghost use Rattle.list.specs.Measures.{amountsBy};
+ghost use Rattle.list.specs.Measures.{headAmounts, segmentsAmounts, agesAmounts};
 use fields::layout::AGES;
 use fields::layout::HEAD_FIELDS;
 use fields::layout::LEAST_AGES;
@@ -49,14 +49,14 @@ pub enum Segment {
     Bend(f64),
 }
 
-// The three doubles of a segment: one that document 01 lists, or what is none of these, held as it came. The rows "doubles",
-// "codes" and "ranges" refuse that from the same numbers.
+// The three doubles of a segment: a segment as document 01 lists it, or what is none, held as it came until the rows "doubles",
+// "codes" and "ranges" refuse it.
 pub enum Entry {
     Listed(Segment),
     Unlisted { kind: f64, second: f64, third: f64 },
 }
 
-// What a segment's three fields read; the third is a rise, or a bend's angle.
+// What the three fields of a segment read; the third is a rise, or a bend's angle.
 pub struct SegmentAmounts {
     pub kind: Amount,
     pub length: Amount,
@@ -99,7 +99,7 @@ fn is(amount: Amount, number: u64) -> bool
     }
 }
 
-// A straight has no rise and a bend no length; where the doubles say otherwise, they are no segment.
+// A straight has no rise and a bend no length: where a double says otherwise, its segment is none that is listed.
 fn entry_of(kind: f64, second: f64, third: f64) -> Entry
     ensures { λ r. ⌜ r ≡ entryOf kind second third ⌝ }
 {
@@ -208,11 +208,10 @@ fn age_amount(x: f64, past: usize) -> Amount
     ticks::ticks_of_double(x)
 }
 
-// Each of the following writes the numbers of a part of the list up to the first field that is refused, and gives how many these
-// are: first of the head.
+// Writes the numbers of the head up to the first field that is refused, and gives how many these are.
 fn read_head(head: &[f64], fields: &mut [u64]) -> usize
     requires { ⌜ (length (now head) ≡ headFields) × (headFields ≤ length (now fields)) ⌝ }
-    ensures { λ r. ⌜ Written (amountsBy headInTicks 1 (now (head .entry))) (now (fields .entry)) (now (fields .exit)) r ⌝ }
+    ensures { λ r. ⌜ Written (headAmounts (now (head .entry))) (now (fields .entry)) (now (fields .exit)) r ⌝ }
 {
     let section = section_of(head);
     let mut at = 0usize;
@@ -226,10 +225,10 @@ fn read_head(head: &[f64], fields: &mut [u64]) -> usize
     at
 }
 
-// Of the segments, each held as what its three doubles are.
+// The same of the segments: each is made once of its three doubles, and read as what it then is.
 fn read_segments(part: &[f64], fields: &mut [u64]) -> usize
     requires { ⌜ (length (now part) % perSegment ≡ 0) × (length (now part) ≤ length (now fields)) ⌝ }
-    ensures { λ r. ⌜ Written (amountsBy segmentInTicks 0 (now (part .entry))) (now (fields .entry)) (now (fields .exit)) r ⌝ }
+    ensures { λ r. ⌜ Written (segmentsAmounts (now (part .entry))) (now (fields .entry)) (now (fields .exit)) r ⌝ }
 {
     let mut at = 0usize;
     while at < part.len() {
@@ -243,10 +242,10 @@ fn read_segments(part: &[f64], fields: &mut [u64]) -> usize
     at
 }
 
-// Of the ages.
+// The same of the ages.
 fn read_ages(part: &[f64], fields: &mut [u64]) -> usize
     requires { ⌜ length (now part) ≤ length (now fields) ⌝ }
-    ensures { λ r. ⌜ Written (amountsBy ageInTicks 0 (now (part .entry))) (now (fields .entry)) (now (fields .exit)) r ⌝ }
+    ensures { λ r. ⌜ Written (agesAmounts (now (part .entry))) (now (fields .entry)) (now (fields .exit)) r ⌝ }
 {
     let mut at = 0usize;
     while at < part.len() {
@@ -259,7 +258,7 @@ fn read_ages(part: &[f64], fields: &mut [u64]) -> usize
     at
 }
 
-// Of the whole list.
+// The same of the whole list, part by part.
 fn read_fields(list: &[f64], segments: usize, fields: &mut [u64]) -> usize
     requires { ⌜ (length (now list) ≤ length (now fields)) × (headFields + perSegment * segments ≤ length (now list)) ⌝ }
     ensures { λ r. ⌜ Written (amountsOf segments 1 (now (list .entry))) (now (fields .entry)) (now (fields .exit)) r ⌝ }

@@ -1,12 +1,12 @@
--- `list::entry_of` meets its contract: each test's answer is put into the definition. A test of two parts that failed has one part
--- that failed. Assumes nothing.
+-- `list::entry_of` meets its contract: the tests that lead to each way out decide the definition. A test of two parts that failed has
+-- one part that failed. Assumes nothing.
 use mathlib.Core.Path.{_≡_}
 use mathlib.Core.Logic.{⊎-elim}
 use mathlib.Core.Bool.{false}
 use borrow.Author.Needs.{needs}
 use Rattle.list.specs.Lists.{ticksIn, wholeIn}
 use Rattle.list.specs.Measures.{is, isStraight, isParabola, isBend}
-use Rattle.list.proofs.Fields.{tested, unless-first, unless-second}
+use Rattle.list.proofs.Segments.{tested, unless-first, unless-second, straight, parabola, bend, unlisted}
 use Rattle.list.proofs.entry_of.Statement.{statement}
 use Rattle.list.proofs.entry_of.Tie as tie
 
@@ -25,10 +25,9 @@ is-requires-2 c κs = search needs
 returns : tie.Need-returns
 returns c =
     let first = c .before .before .before in
-    rw (
-      tested 1 (first .before .is .ensures) (first .before .before .whole-of-double .ensures) (first .if1 .taken),
-      tested 0 (c .before .is2 .ensures) (c .before .before .ticks-of-double .ensures) (c .if2 .taken),
-    )
+    straight _ _ _
+    (tested 1 (first .before .is .ensures) (first .before .before .whole-of-double .ensures) (first .if1 .taken))
+    (tested 0 (c .before .is2 .ensures) (c .before .before .ticks-of-double .ensures) (c .if2 .taken))
 
 is-requires-3 : tie.Need-is-requires-3
 is-requires-3 c κs = search needs
@@ -48,7 +47,7 @@ returns-2 : tie.Need-returns-2
 returns-2 c =
     let other = c .before .before in
     let code = other .before .before .whole-of-double .ensures in
-    rw (not-straight other, tested 2 (c .before .is3 .ensures) code (c .if3 .taken))
+    parabola _ _ _ (not-straight other) (tested 2 (c .before .is3 .ensures) code (c .if3 .taken))
 
 is-requires-4 : tie.Need-is-requires-4
 is-requires-4 c κs = search needs
@@ -64,15 +63,11 @@ not-parabola c = tested 2 (c .before .is3 .ensures) (c .before .before .before .
 
 returns-3 : tie.Need-returns-3
 returns-3 c =
-    let bend = c .before .before .before in
-    let other = bend .before .before in
+    let second = c .before .before .before in
+    let other = second .before .before in
     let code = other .before .before .before .before .whole-of-double .ensures in
-    rw (
-      not-straight (other .before .before),
-      not-parabola other,
-      tested 3 (bend .before .is4 .ensures) code (bend .if4 .taken),
-      tested 0 (c .before .is5 .ensures) (c .before .before .ticks-of-double2 .ensures) (c .if5 .taken),
-    )
+    bend _ _ _ (not-straight (other .before .before)) (not-parabola other) (tested 3 (second .before .is4 .ensures) code (second .if4 .taken))
+    (tested 0 (c .before .is5 .ensures) (c .before .before .ticks-of-double2 .ensures) (c .if5 .taken))
 
 not-bend : (c : tie.Joined4)
     → let args = start (c .before .before .before .before) .args in
@@ -88,7 +83,7 @@ not-bend c =
 returns-4 : tie.Need-returns-4
 returns-4 c =
     let other = c .before .before in
-    rw (not-straight (other .before .before), not-parabola other, not-bend c)
+    unlisted _ _ _ (not-straight (other .before .before)) (not-parabola other) (not-bend c)
 
 pub entry-of-spec : {M : Type 1} → statement M
 entry-of-spec =

@@ -4,8 +4,7 @@ use Prim.Native.Nat.{_-_}
 use native.Mathlib.Omega.{arith}
 use lib.ListN.{length}
 use borrow.Author.Needs.{needs}
-use Rattle.list.specs.Lists.{ageInTicks}
-use Rattle.list.specs.Measures.{amountsBy}
+use Rattle.list.specs.Measures.{agesAmounts}
 use Rattle.list.proofs.Amounts.{part-length}
 use Rattle.list.proofs.Fields.{next-of-ages}
 use Rattle.list.proofs.Numbers.{Front, begun, one-more, stopped, finished}
@@ -13,7 +12,7 @@ use Rattle.list.proofs.read_ages.Statement.{statement}
 use Rattle.list.proofs.read_ages.Tie as tie
 
 abbrev Inv-loop : tie.InvT-loop
-Inv-loop part fields₀ at₀ fields at = Front (amountsBy ageInTicks 0 part) fields₀ fields at
+Inv-loop part fields₀ at₀ fields at = Front (agesAmounts part) fields₀ fields at
 
 abbrev μ-loop : tie.MeasureT-loop
 μ-loop part fields₀ at₀ fields at = length part - at

@@ -1,40 +1,52 @@
--- `list::read_fields` meets its contract: each part is read, or a field of it is refused. Assumes nothing.
+-- `list::read_fields` meets its contract: each part is read behind those before it, or a field of it is refused. Assumes nothing.
 use mathlib.Core.Path.{sym}
+use mathlib.Core.List.{List}
+use Prim.Native.Nat.{ℕ, _+_, _-_}
 use native.Mathlib.Omega.{arith}
+use lib.ListN.{length}
 use denote.Ref.{now}
 use borrow.Author.Needs.{needs}
-use Rattle.list.proofs.Parts.{head-long, head-refused, few-segments, segment-refused, few-ages, ages-written}
+use borrow.Rule.Slice.PartMut.{putMid}
+use Rattle.fields.specs.Layout.{headFields}
+use Rattle.list.specs.Lists.{amountsOf, Written}
+use Rattle.list.proofs.Parts.{firstAge, beforeAges, head-length, head-refused, before-ages-refused}
+use Rattle.list.proofs.Parts.{segments-written, segment-within, ages-written, age-within}
 use Rattle.list.proofs.read_fields.Statement.{statement}
 use Rattle.list.proofs.read_fields.Tie as tie
 
 slice-aggregate-read-head : tie.Need-slice-aggregate-read-head
 slice-aggregate-read-head c =
     let start = c .before .before .before in
-    sym (head-long (now (start .args .list)) (start .args .segments) (start .pre .1))
+    sym (head-length (now (start .args .list)) (start .args .segments) (start .pre .1))
 
 read-head-requires : tie.Need-read-head-requires
 read-head-requires c κs =
     let start = c .before .before .before .before in
-    (head-long (now (start .args .list)) (start .args .segments) (start .pre .1), search needs)
+    (head-length (now (start .args .list)) (start .args .segments) (start .pre .1), search needs)
 
 same-length : tie.Need-same-length
 same-length c = search needs
 
--- the place where the head was read, and the two before that where segments and ages were
+-- the places where the parts are read, and what the buffer then is
 abbrev start : tie.After-read-head → tie.Start
 start c = c .before .before .before .before .before
 
-abbrev head-place : tie.After-read-segments → tie.After-read-head
-head-place c = c .before .before .before .before .before .before
+abbrev head : tie.After-read-segments → tie.After-read-head
+head c = c .before .before .before .before .before .before
 
-abbrev segments-place : tie.After-read-ages → tie.After-read-segments
-segments-place c = c .before .before .before .before .before .before
+abbrev segments : tie.After-read-ages → tie.After-read-segments
+segments c = c .before .before .before .before .before .before
+
+abbrev buffer : tie.After-read-segments → List ℕ
+buffer c =
+    let before = head c .read-head .last .1 .0 in
+    putMid headFields (length before - headFields) before (c .read-segments .last .1 .0)
 
 returns : tie.Need-returns
 returns c =
-    let head = c .before .before .before in
-    let args = start head .args in
-    head-refused (now (args .list)) (args .segments) (start head .pre .1) (now (args .fields)) (head .read-head .ensures) (c .if1 .taken)
+    let read = c .before .before .before in
+    let args = start read .args in
+    head-refused (now (args .list)) (args .segments) (start read .pre .1) (now (args .fields)) (read .read-head .ensures) (c .if1 .taken)
 
 mul-first-age : tie.Need-mul-first-age
 mul-first-age c = search needs
@@ -63,14 +75,21 @@ part-read-segments-end-2 c = search needs
 read-segments-requires : tie.Need-read-segments-requires
 read-segments-requires c κs = search needs
 
+up-to-ages : (c : tie.After-read-segments)
+    → let args = start (head c) .args in
+    Written (beforeAges (args .segments) (now (args .list))) (now (args .fields)) (buffer c) (headFields + c .read-segments .result)
+up-to-ages c =
+    let read = head c in
+    let args = start read .args in
+    segments-written (now (args .list)) (args .segments) (start read .pre .1) (now (args .fields)) (read .read-head .ensures)
+    (c .before .before .before .if1 .left) (c .read-segments .ensures)
+
 add-read : tie.Need-add-read
 add-read c =
-    let segments = c .before .before in
-    let head = head-place segments in
-    let args = start head .args in
-    let few =
-    few-segments (now (args .list)) (args .segments) (start head .pre .1) (now (args .fields)) (head .read-head .ensures)
-    (segments .before .before .before .if1 .left) (segments .read-segments .ensures) in
+    let read = c .before .before in
+    let first = start (head read) in
+    let args = first .args in
+    let within = segment-within (now (args .list)) (args .segments) (first .pre .1) (now (args .fields)) (up-to-ages read) in
     omega arith
 
 same-length-2 : tie.Need-same-length-2
@@ -78,11 +97,10 @@ same-length-2 c = search needs
 
 returns-2 : tie.Need-returns-2
 returns-2 c =
-    let segments = c .before .before .before in
-    let head = head-place segments in
-    let args = start head .args in
-    segment-refused (now (args .list)) (args .segments) (start head .pre .1) (now (args .fields)) (head .read-head .ensures)
-    (segments .before .before .before .if1 .left) (segments .read-segments .ensures) (c .if2 .taken)
+    let read = c .before .before .before in
+    let first = start (head read) in
+    let args = first .args in
+    before-ages-refused (now (args .list)) (args .segments) (first .pre .1) (now (args .fields)) (up-to-ages read) (c .if2 .taken)
 
 mul-read-ages : tie.Need-mul-read-ages
 mul-read-ages c = search needs
@@ -111,30 +129,31 @@ part-read-ages-end-2 c = search needs
 read-ages-requires : tie.Need-read-ages-requires
 read-ages-requires c κs = search needs
 
+all-parts : (c : tie.After-read-ages)
+    → let args = start (head (segments c)) .args in
+    let at = firstAge (args .segments) in
+    let before = buffer (segments c) in
+    Written (amountsOf (args .segments) 1 (now (args .list))) (now (args .fields))
+    (putMid at (length before - at) before (c .read-ages .last .1 .0)) (at + c .read-ages .result)
+all-parts c =
+    let first = start (head (segments c)) in
+    let args = first .args in
+    ages-written (now (args .list)) (args .segments) (first .pre .1) (now (args .fields)) (up-to-ages (segments c))
+    (c .before .before .before .if2 .left) (c .read-ages .ensures)
+
 add-result : tie.Need-add-result
 add-result c =
-    let ages = c .before .before in
-    let segments = segments-place ages in
-    let head = head-place segments in
-    let args = start head .args in
-    let few =
-    few-ages (now (args .list)) (args .segments) (start head .pre .1) (now (args .fields)) (head .read-head .ensures)
-    (segments .before .before .before .if1 .left) (segments .read-segments .ensures) (ages .before .before .before .if2 .left)
-    (ages .read-ages .ensures) in
+    let read = c .before .before in
+    let first = start (head (segments read)) in
+    let args = first .args in
+    let within = age-within (now (args .list)) (args .segments) (first .pre .1) (now (args .fields)) (all-parts read) in
     omega arith
 
 same-length-3 : tie.Need-same-length-3
 same-length-3 c = search needs
 
 returns-3 : tie.Need-returns-3
-returns-3 c =
-    let ages = c .before .before in
-    let segments = segments-place ages in
-    let head = head-place segments in
-    let args = start head .args in
-    ages-written (now (args .list)) (args .segments) (start head .pre .1) (now (args .fields)) (head .read-head .ensures)
-    (segments .before .before .before .if1 .left) (segments .read-segments .ensures) (ages .before .before .before .if2 .left)
-    (ages .read-ages .ensures)
+returns-3 c = all-parts (c .before .before)
 
 pub read-fields-spec : {M : Type 1} → statement M
 read-fields-spec =

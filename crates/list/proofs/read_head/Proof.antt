@@ -4,8 +4,7 @@ use Prim.Native.Nat.{_-_}
 use native.Mathlib.Omega.{arith}
 use lib.ListN.{length}
 use borrow.Author.Needs.{needs}
-use Rattle.list.specs.Lists.{headInTicks}
-use Rattle.list.specs.Measures.{amountsBy}
+use Rattle.list.specs.Measures.{headAmounts}
 use Rattle.list.proofs.Amounts.{part-length}
 use Rattle.list.proofs.Fields.{next-of-head}
 use Rattle.list.proofs.Numbers.{Front, begun, one-more, stopped, finished}
@@ -13,7 +12,7 @@ use Rattle.list.proofs.read_head.Statement.{statement}
 use Rattle.list.proofs.read_head.Tie as tie
 
 abbrev Inv-loop : tie.InvT-loop
-Inv-loop head fields₀ section at₀ fields at = Front (amountsBy headInTicks 1 head) fields₀ fields at
+Inv-loop head fields₀ section at₀ fields at = Front (headAmounts head) fields₀ fields at
 
 abbrev μ-loop : tie.MeasureT-loop
 μ-loop head fields₀ section at₀ fields at = length head - at

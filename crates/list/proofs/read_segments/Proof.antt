@@ -4,7 +4,7 @@ use Prim.Native.Nat.{_-_}
 use native.Mathlib.Omega.{arith}
 use lib.ListN.{length}
 use borrow.Author.Needs.{needs}
-use Rattle.list.proofs.Segments.{Passed, begins, ends, inside, room-for-segment, few, same-then, stops, turns}
+use Rattle.list.proofs.Segments.{Passed, begins, ends, room-for-segment, few, same-after, stops, turns}
 use Rattle.list.proofs.read_segments.Statement.{statement}
 use Rattle.list.proofs.read_segments.Tie as tie
 
@@ -80,7 +80,7 @@ same-length c =
     let amounts = written .before .before in
     let entry = amounts .before in
     let turn = entry .before .before .before .before in
-    same-then (turn .before .loop .inv) (turn .loop-test .taken) (entry .entry-of .ensures)
+    same-after (turn .before .loop .inv) (turn .loop-test .taken) (entry .entry-of .ensures)
     (amounts .amounts-of-entry .ensures) (written .write-segment .ensures)
 
 returns : tie.Need-returns Inv-loop μ-loop

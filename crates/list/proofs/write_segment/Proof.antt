@@ -8,7 +8,7 @@ use lib.Dec.{lit<}
 use lib.ListN.{length, set, length-set}
 use denote.Ref.{now}
 use borrow.Author.Needs.{needs}
-use Rattle.ticks.specs.declared.Amount.the-variants.{Of, Refused}
+use Rattle.ticks.specs.declared.Amount.the-variants.{Of}
 use Rattle.fields.specs.Layout.{perSegment}
 use Rattle.list.specs.declared.SegmentAmounts.{SegmentAmounts}
 use Rattle.list.specs.Measures.{inOrder}
