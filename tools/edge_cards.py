@@ -1,10 +1,13 @@
 #!/usr/bin/env python3
-"""Writes the cards at the edges of document 01's ranges and rules, from 0240.card on, beside the other stored cards, each with its
-answer by tools/paper.py; and edges.txt, which says what each is.
+"""Holds the stored cards at the edges of document 01's ranges and rules, from 0240.card on, and edges.txt, which says what each is, to
+what is built here; with --write, writes them, each card with its answer by tools/paper.py. Its last line is 'N passed, M failed'.
+
+A case more goes to the end, so that the others keep their numbers.
 """
 from pathlib import Path
 
 import paper
+from stored import WRITE, Checks
 
 DATA = Path(__file__).resolve().parent.parent / "crates" / "cases" / "data"
 FIRST = 240
@@ -130,7 +133,8 @@ add("stress under 1000 psi by slip", card(with_(POST, f4=1000, f6=256), ages=AGE
 add("slip larger than the stress", card(with_(POST, f6=2048, f7=1024), ages=AGES))
 # 64 ages, 64 segments
 segs = [(1 + i % 3, (2048, 65536, 0)[i % 3], (0, 512, 10)[i % 3]) for i in range(64)]
-add("post-tensioned, 64 segments and 64 ages", card(with_(POST, f4=180000, f16=2048, f15=2**26, f18=2**20, f21=100, f22=100000, f23=64, f24=64), segs, [(h, (i * 1000) % 7777) for i, (h, _) in enumerate(many)]))
+longest = card(with_(POST, f4=180000, f16=2048, f15=2**26, f18=2**20, f21=100, f22=100000, f23=64, f24=64), segs, [(h, (i * 1000) % 7777) for i, (h, _) in enumerate(many)])
+add(f"the longest good card, post-tensioned, 64 segments and 64 ages: {len(longest)} bytes", longest)
 add("pretensioned, 64 ages", card(with_(PRE, f24=64), [], [(h, 50 * i) for i, (h, _) in enumerate([(25 + 3 * i * i, 0) for i in range(63)] + [(438000, 0)])]))
 # blank slip, blank other field, and shape
 good = card(POST, ages=AGES)
@@ -142,17 +146,32 @@ add("a space more", good + b' ')
 add("last line feed missing", good[:-1])
 add("last line missing", good[:-29])
 add("a space behind a digit", good[:41] + b' ' + good[42:])
+# a count out of range before a column that is no digit, on one line
+add("65 segments and a letter in the count of ages", card(with_(POST, f23=65, f24="x"), ages=AGES))
+# bytes behind the longest good card are one line more, a wrong one, also where a reader's room of 8192 bytes ends within them
+for label, more in (("a line feed more", b'\n'), ("a space more", b' '), ("a digit more", b'0'), ("twice", longest)):
+    add(f"the longest good card, {label}: {len(longest + more)} bytes", longest + more)
+ROOM = 8192
+add(f"{ROOM} spaces before a good card", b' ' * ROOM + good)
 
 
 def main():
-    for old in DATA.glob("cards/*"):
-        if int(old.stem) >= FIRST:
+    checks = Checks()
+    stored = lambda: {card for card in DATA.glob("cards/*") if int(card.stem) >= FIRST}
+    if WRITE:
+        for old in stored():
             old.unlink()
-    with open(DATA / "edges.txt", "w") as labels:
-        for number, (label, data) in enumerate(cases, FIRST):
-            (DATA / "cards" / ("%04d.card" % number)).write_bytes(data)
-            (DATA / "cards" / ("%04d.out" % number)).write_text(paper.card_answer(data))
-            labels.write("%04d %s\n" % (number, label))
+    labels, due = "", set()
+    for number, (label, data) in enumerate(cases, FIRST):
+        card, answer = (DATA / "cards" / ("%04d.%s" % (number, kind)) for kind in ("card", "out"))
+        checks.file(card, data)
+        if WRITE:
+            answer.write_text(paper.card_answer(data))
+        labels += "%04d %s\n" % (number, label)
+        due |= {card, answer}
+    checks.file(DATA / "edges.txt", labels.encode())
+    checks.hold(stored() == due, "cards are stored that are not built here, or the other way round")
+    checks.end()
 
 
 if __name__ == "__main__":
