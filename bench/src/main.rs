@@ -1,5 +1,6 @@
 //! Runs a second on one core: the proved core through its C entries beside the independent implementation of the hosts' tests, called
-//! the same way over bytes, in one run, interleaved. Buffers are not cleared between runs.
+//! the same way over bytes, in one run, interleaved. Buffers are not cleared between runs. That implementation is written to be read:
+//! it allocates as it goes and reckons with 128 bits, so the ratio is no measure of the core's speed.
 //!
 //! `bench` prints medians; `bench count ENTRY MEMBER RUNS` only runs the core, for a tool that counts instructions.
 

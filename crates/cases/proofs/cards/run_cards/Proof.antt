@@ -5,10 +5,10 @@ use Rattle.cases.proofs.cards.run_cards.Statement.{statement}
 use Rattle.cases.proofs.cards.run_cards.Tie as tie
 
 abbrev Inv-loop : tie.InvT-loop
-Inv-loop number₀ number = number ≤ 377
+Inv-loop number₀ number = number ≤ 383
 
 abbrev μ-loop : tie.MeasureT-loop
-μ-loop number₀ number = 377 - number
+μ-loop number₀ number = 383 - number
 
 loop-holds : tie.Need-loop-holds Inv-loop μ-loop
 loop-holds c = omega arith
