@@ -1,11 +1,10 @@
 // The cards: files 0000.card, 0001.card and so on in the folder cards. Those from 0240 on stand at the edges of document 01's
 // ranges and rules, and edges.txt says which.
-use printing::print_card;
+use libc::STDOUT_FILENO;
+use text::MOST_READ;
+use text::MOST_TEXT;
 
 const CARDS: usize = 383;
-
-// More bytes than the longest good card has, 4,948.
-const MOST_BYTES: usize = 8192;
 
 const ZERO: u8 = b'0';
 
@@ -37,19 +36,22 @@ fn open_card(number: usize) -> i32 {
     )
 }
 
+// What the report program prints for a card.
 fn run_card(number: usize) {
     let file = open_card(number);
     if file < 0 {
         os::fail(b"cards");
         return;
     }
-    let mut card = [0u8; MOST_BYTES];
-    let count = io::read_full(file, &mut card);
+    let mut card = [0u8; MOST_READ];
+    let read = io::read_full(file, &mut card);
     libc::close(file);
-    print_card(&card[..count]);
+    let mut text = [0u8; MOST_TEXT];
+    let bytes = text::text_of_input(&card, read, &mut text);
+    io::write_all(STDOUT_FILENO, &text[..bytes]);
 }
 
-pub fn run_cards() {
+pub(crate) fn run_cards() {
     for number in 0..CARDS {
         run_card(number);
     }

@@ -1,7 +1,7 @@
 // The lists: a line of lists.txt for each. Bars part it: decimal numbers of room in report and scratch, then the list, each double
 // as the 16 hexadecimal digits of its bits, then its answer, which is passed over.
 ghost use Prim.Native.Nat.{_<_};
-use printing::print_list;
+use crate::answers::print_list;
 
 // The longest list that is kept; doubles past it are ignored. A good list has at most 344.
 const MOST_DOUBLES: usize = 400;
@@ -188,7 +188,7 @@ fn run_file(file: i32) {
     }
 }
 
-pub fn run_lists() {
+pub(crate) fn run_lists() {
     let name = b"lists.txt";
     let file = os::open_read(name);
     if file < 0 {

@@ -1,9 +1,8 @@
-// The cards: each one's file, and below it its answer.
-use crate::title::print_title;
-use printing::print_card;
-
-// More bytes than the longest good card has, 4,948.
-const MOST_BYTES: usize = 8192;
+// The cards: each one's file, and below it what the report program prints for it.
+use crate::print::print_title;
+use libc::STDOUT_FILENO;
+use text::MOST_READ;
+use text::MOST_TEXT;
 
 fn run_card(path: &[u8]) {
     print_title(path);
@@ -12,10 +11,12 @@ fn run_card(path: &[u8]) {
         os::fail(path);
         return;
     }
-    let mut card = [0u8; MOST_BYTES];
-    let count = io::read_full(file, &mut card);
+    let mut card = [0u8; MOST_READ];
+    let read = io::read_full(file, &mut card);
     libc::close(file);
-    print_card(&card[..count]);
+    let mut text = [0u8; MOST_TEXT];
+    let bytes = text::text_of_input(&card, read, &mut text);
+    io::write_all(STDOUT_FILENO, &text[..bytes]);
 }
 
 // Document 001, design example 1.
@@ -45,7 +46,7 @@ fn run_box_girder() {
     run_card(b"box_girder_g.card");
 }
 
-pub fn run_cards() {
+pub(crate) fn run_cards() {
     run_double_tee();
     run_slab();
     run_box_girder();

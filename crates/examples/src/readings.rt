@@ -1,13 +1,13 @@
 // The readings of document 01 that no theorem lists: logarithms around the powers of ten, shares, clocks at their ends, the
 // factors of volume/surface and of the age at transfer, and whole creep and shrinkage where their limits begin.
+use crate::print::print_numbers;
+use crate::print::print_title;
 use crate::shares;
-use crate::title::print_title;
 use coefficient::clocks::MemberHours;
 use coefficient::clocks::SERVICE_LIFE;
 use coefficient::codes::Concrete;
 use coefficient::codes::Cure;
 use coefficient::codes::Kind;
-use printing::print_numbers;
 
 const DAY: u32 = 24;
 
@@ -156,7 +156,7 @@ fn print_whole_losses() {
     print_whole_losses_at(8_000_000);
 }
 
-pub fn print_readings() {
+pub(crate) fn print_readings() {
     print_logarithms();
     shares::print_creep_shares();
     shares::print_shrinkage_shares();

@@ -1,11 +1,11 @@
 // The shares of creep and shrinkage: at each row, an hour after it, half way to the next row and an hour before that; then at the
 // end of the service life and an hour past it.
 ghost use Prim.Native.Nat.{_≤_, _<_};
-use crate::title::print_title;
+use crate::print::print_numbers;
+use crate::print::print_title;
 use coefficient::clocks::HoursSinceCuring;
 use coefficient::clocks::HoursSinceTransfer;
 use coefficient::clocks::SERVICE_LIFE;
-use printing::print_numbers;
 
 const DAY: u32 = 24;
 
@@ -57,7 +57,7 @@ fn print_from_five_days(share: Share) {
     print_share(share, LIFE + 1);
 }
 
-pub fn print_creep_shares() {
+pub(crate) fn print_creep_shares() {
     print_title(b"hours since transfer, creep share");
     print_between(Share::Creep, 0, DAY);
     print_between(Share::Creep, DAY, 2 * DAY);
@@ -65,7 +65,7 @@ pub fn print_creep_shares() {
     print_from_five_days(Share::Creep);
 }
 
-pub fn print_shrinkage_shares() {
+pub(crate) fn print_shrinkage_shares() {
     print_title(b"hours since the end of curing, shrinkage share");
     print_between(Share::Shrinkage, 0, DAY);
     print_between(Share::Shrinkage, DAY, 3 * DAY);

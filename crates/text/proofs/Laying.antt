@@ -14,6 +14,14 @@ use Rattle.fields.proofs.Buffers.{length-over, written-behind}
 use Rattle.line.specs.Line.{lineFeed, lineLength}
 use Rattle.text.specs.Columns.{digitOrSpace, firstColumns, inColumns, allInColumns, lineOf, Holds}
 
+-- a text that a buffer begins with lies within it
+pub holding : {text : List ℕ} {bytes : ℕ} {buffer old : List ℕ} → bytes ≡ length text → buffer ≡ over text old
+    → Holds text bytes buffer old
+holding {text} {bytes} {buffer} {old} count is =
+    let whole = ap length is ∙ length-append text (drop (length text) old) in
+    let within : bytes ≤ length buffer = omega arith in
+    record { bytes-are = count; buffer-is = is; fits = (within, sym (length-take-le bytes buffer within)) }
+
 pub columns-length : (column rest : ℕ) → length (firstColumns column rest) ≡ column
 unfolding firstColumns
 columns-length zero rest = refl
@@ -140,9 +148,5 @@ module _ {old numbers part : List ℕ} {at done : ℕ} (begun : Begun old number
       let text = allInColumns numbers in
       let first : length text ≡ at = rw whole at front in
       let lengths = length-append text (lineFeed ∷ []) in
-      record {
-        bytes-are = omega arith;
-        buffer-is = ap (λ (l : List ℕ). set l at lineFeed) (rw whole at (begun .part-is))
-            ∙ set-behind text old lineFeed at first (omega arith);
-        fits = simp length-set (omega arith);
-      }
+      holding (omega arith)
+      (ap (λ (l : List ℕ). set l at lineFeed) (rw whole at (begun .part-is)) ∙ set-behind text old lineFeed at first (omega arith))

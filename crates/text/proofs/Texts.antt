@@ -34,7 +34,7 @@ use Rattle.losses.proofs.Readers.{same-result}
 use Rattle.text.specs.Columns.{lineOf, Holds}
 use Rattle.text.specs.Conditions.{mostLine, AgesFit, RunFits}
 use Rattle.text.specs.Text.{refusalText, numbersBefore, beforeText, agesText, resultText, mostNumbers, cardText}
-use Rattle.text.proofs.Laying.{line-length}
+use Rattle.text.proofs.Laying.{holding, line-length}
 
 -- a text behind another, by way of `&mut buffer[at..]`
 pub holds-then : {first second : List ℕ} {at more : ℕ} {buffer old part : List ℕ} → Holds first at buffer old
@@ -43,10 +43,9 @@ pub holds-then : {first second : List ℕ} {at more : ℕ} {buffer old part : Li
 holds-then {first} {second} {at} {more} {buffer} {old} {part} holds behind =
     let is = written-behind first second old buffer part at (holds .bytes-are) (holds .buffer-is) (behind .buffer-is) in
     let both = length-append first second in
-    let whole = ap length is ∙ length-append (first ++ second) (drop (length (first ++ second)) old) in
     let bytes = holds .bytes-are in
     let more-bytes = behind .bytes-are in
-    record { bytes-are = omega arith; buffer-is = is; fits = omega arith }
+    holding (omega arith) is
 
 -- ---- the lines of the ages
 
@@ -66,7 +65,7 @@ pub none-lined : (fields report old : List ℕ) (segments ages : ℕ)
     → Lined fields report old segments ages old 0 (headFields + perSegment * segments) 0 0
 none-lined fields report old segments ages = record {
   done = [];
-  holds = record { bytes-are = refl; buffer-is = refl; fits = omega arith };
+  holds = holding refl refl;
   same = refl;
   within = omega arith;
   at-is = refl;

@@ -14,7 +14,7 @@ use Rattle.card.specs.Card.{cardOutcome}
 use Rattle.stages.specs.declared.BeforeAges.{BeforeAges}
 use Rattle.stages.specs.Run.{Result, reported, refused}
 use Rattle.losses.specs.Promise.{resultOf}
-use Rattle.text.specs.Columns.{lineOf, Holds}
+use Rattle.text.specs.Columns.{lineOf, Front, Holds}
 
 -- "A refused card prints number and place, one line of two such columns."
 abbrev pub refusalText : Refusal → List ℕ
@@ -59,5 +59,6 @@ abbrev pub Read : List ℕ → ℕ → List ℕ → Type 0
 Read buffer bytes input = take bytes buffer ≡ take (length buffer) input
 
 -- what is printed is the text of the whole input, of which the buffer may hold only the first bytes
-abbrev pub PrintsAll : List ℕ → ℕ → ℕ → List ℕ → List ℕ → Type 0
-PrintsAll buffer read bytes text was = (input : List ℕ) → Read buffer read input → Holds (cardText input) bytes text was
+pub record PrintsAll (buffer : List ℕ) (read bytes : ℕ) (text was : List ℕ) : Type 0 where
+  pub whole : (input : List ℕ) → Read buffer read input → Holds (cardText input) bytes text was
+  pub fits : Front bytes text

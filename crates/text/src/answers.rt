@@ -26,10 +26,9 @@ pub(crate) fn put_refusal(part: &mut [u8], refusal: Refusal) -> usize
     requires { ⌜ LineFits (now part) ⌝ }
     ensures { λ r. ⌜ Holds (refusalText refusal) r (now (part .exit)) (now (part .entry)) ⌝ }
 {
-    columns::put_line(
-        part,
-        &[refusal::number_of(refusal), refusal::place_of(refusal)],
-    )
+    let number = refusal::number_of(refusal);
+    let place = refusal::place_of(refusal);
+    columns::put_line(part, &[number, place])
 }
 
 // The line of the losses before the ages and of the stress after them.

@@ -9,9 +9,6 @@ use Rattle.text.specs.Conditions.{mostColumns}
 use borrow.Author.Needs.{needs}
 use Rattle.text.proofs.line_of.Statement.{statement}
 use Rattle.text.proofs.line_of.Tie as tie
-use Rattle.text.proofs.line_of.Reads as reads
-use Rattle.text.proofs.line_of.Lts as lts
-use Rattle.text.proofs.columns.put_line.Reads as put-line-reads
 
 six : (numbers : List ℕ) → mostColumns < length numbers → length (take mostColumns numbers) ≡ mostColumns
 six numbers more = length-take-le mostColumns numbers (omega arith)

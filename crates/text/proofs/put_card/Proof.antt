@@ -7,11 +7,6 @@ use Rattle.text.proofs.Texts.{refused-card, read-card}
 use borrow.Author.Needs.{needs}
 use Rattle.text.proofs.put_card.Statement.{statement}
 use Rattle.text.proofs.put_card.Tie as tie
-use Rattle.text.proofs.put_card.Reads as reads
-use Rattle.text.proofs.put_card.Lts as lts
-use Rattle.card.proofs.read_card.Reads as read-card-reads
-use Rattle.text.proofs.answers.put_refusal.Reads as put-refusal-reads
-use Rattle.text.proofs.answers.put_run.Reads as put-run-reads
 
 read-card-requires : tie.Need-read-card-requires
 read-card-requires c κs = search needs

@@ -6,9 +6,6 @@ use Rattle.text.proofs.Texts.{input-text}
 use borrow.Author.Needs.{needs}
 use Rattle.text.proofs.put_input.Statement.{statement}
 use Rattle.text.proofs.put_input.Tie as tie
-use Rattle.text.proofs.put_input.Reads as reads
-use Rattle.text.proofs.put_input.Lts as lts
-use Rattle.text.proofs.put_card.Reads as put-card-reads
 
 put-card-requires : tie.Need-put-card-requires
 put-card-requires c κs = search needs
@@ -17,11 +14,15 @@ same-length : tie.Need-same-length
 same-length c = search needs
 
 returns : tie.Need-returns
-returns c = λ input is.
+returns c =
     let start = c .before .before .before .before .before .before .before in
+    let holds = c .before .before .put-card .ensures in
     let all = take-all (start .args .read) (start .args .buffer .now) (search needs) in
-    rw (input-text (start .args .buffer .now) (start .args .buffer .now) input (start .pre .more) (sym all ∙ is)) at
-    (c .before .before .put-card .ensures)
+    record {
+      whole = λ input is.
+          rw (input-text (start .args .buffer .now) (start .args .buffer .now) input (start .pre .more) (sym all ∙ is)) at holds;
+      fits = holds .fits;
+    }
 
 slice-aggregate-put-card : tie.Need-slice-aggregate-put-card
 slice-aggregate-put-card c =
@@ -35,9 +36,13 @@ same-length-2 : tie.Need-same-length-2
 same-length-2 c = search needs
 
 returns-2 : tie.Need-returns-2
-returns-2 c = λ input is.
+returns-2 c =
     let start = c .before .before .before .before .before .before .before .before in
-    rw (input-text (start .args .buffer .now) _ input (start .pre .more) is) at (c .before .before .put-card2 .ensures)
+    let holds = c .before .before .put-card2 .ensures in
+    record {
+      whole = λ input is. rw (input-text (start .args .buffer .now) _ input (start .pre .more) is) at holds;
+      fits = holds .fits;
+    }
 
 pub put-input-spec : {M : Type 1} → statement M
 put-input-spec =

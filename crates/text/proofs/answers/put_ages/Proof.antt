@@ -5,9 +5,6 @@ use borrow.Author.Needs.{needs}
 use Rattle.text.proofs.Texts.{Lined, none-lined, next-lined, all-lined}
 use Rattle.text.proofs.answers.put_ages.Statement.{statement}
 use Rattle.text.proofs.answers.put_ages.Tie as tie
-use Rattle.text.proofs.answers.put_ages.Reads as reads
-use Rattle.text.proofs.answers.put_ages.Lts as lts
-use Rattle.text.proofs.columns.put_line.Reads as put-line-reads
 
 abbrev Inv-loop : tie.InvT-loop
 Inv-loop part₀ fields segments ages report at₀ field₀ row₀ age₀ part at field row age =

@@ -2,11 +2,6 @@
 use borrow.Author.Needs.{needs}
 use Rattle.text.proofs.answers.put_refusal.Statement.{statement}
 use Rattle.text.proofs.answers.put_refusal.Tie as tie
-use Rattle.text.proofs.answers.put_refusal.Reads as reads
-use Rattle.text.proofs.answers.put_refusal.Lts as lts
-use Rattle.fields.proofs.refusal.number_of.Reads as number-of-reads
-use Rattle.fields.proofs.refusal.place_of.Reads as place-of-reads
-use Rattle.text.proofs.columns.put_line.Reads as put-line-reads
 
 number-of-requires : tie.Need-number-of-requires
 number-of-requires c κs = search needs
@@ -25,7 +20,7 @@ same-length c = search needs
 
 returns : tie.Need-returns
 returns c =
-    let placed = c .before .before .before .before in
+    let placed = c .before .before .before .before .before in
     rw (placed .before .number-of .ensures, placed .place-of .ensures) at (c .before .before .put-line .ensures)
 
 pub put-refusal-spec : {M : Type 1} → statement M

@@ -5,12 +5,6 @@ use Rattle.text.proofs.Texts.{holds-then, ages-fit, refusal-printed, ru
 use borrow.Author.Needs.{needs}
 use Rattle.text.proofs.answers.put_run.Statement.{statement}
 use Rattle.text.proofs.answers.put_run.Tie as tie
-use Rattle.text.proofs.answers.put_run.Reads as reads
-use Rattle.text.proofs.answers.put_run.Lts as lts
-use Rattle.losses.proofs.run.run_fields.Reads as run-fields-reads
-use Rattle.text.proofs.answers.put_ages.Reads as put-ages-reads
-use Rattle.text.proofs.answers.put_before.Reads as put-before-reads
-use Rattle.text.proofs.answers.put_refusal.Reads as put-refusal-reads
 
 slice-aggregate-run-fields : tie.Need-slice-aggregate-run-fields
 slice-aggregate-run-fields c = search needs

@@ -4,8 +4,6 @@ use borrow.Author.Needs.{needs}
 use borrow.Author.Tests.{eq-eqb, ne-eqb, lt-ltb, le-ltb}
 use Rattle.text.proofs.columns.digit_or_space.Statement.{statement}
 use Rattle.text.proofs.columns.digit_or_space.Tie as tie
-use Rattle.text.proofs.columns.digit_or_space.Reads as reads
-use Rattle.text.proofs.columns.digit_or_space.Lts as lts
 
 sub-if2 : tie.Need-sub-if2
 sub-if2 c = search needs

@@ -7,9 +7,6 @@ use lib.ListN.{length}
 use Rattle.text.proofs.Laying.{Begun, none-begun, one-number-more, ended}
 use Rattle.text.proofs.columns.put_line.Statement.{statement}
 use Rattle.text.proofs.columns.put_line.Tie as tie
-use Rattle.text.proofs.columns.put_line.Reads as reads
-use Rattle.text.proofs.columns.put_line.Lts as lts
-use Rattle.text.proofs.columns.put_number.Reads as put-number-reads
 
 abbrev Inv-loop : tie.InvT-loop
 Inv-loop part₀ numbers at₀ done₀ part at done = Begun part₀ numbers part at done

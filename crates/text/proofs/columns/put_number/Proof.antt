@@ -5,9 +5,6 @@ use native.Mathlib.Omega.{arith}
 use Rattle.text.proofs.Laying.{Laid, none-laid, one-more, all-laid}
 use Rattle.text.proofs.columns.put_number.Statement.{statement}
 use Rattle.text.proofs.columns.put_number.Tie as tie
-use Rattle.text.proofs.columns.put_number.Reads as reads
-use Rattle.text.proofs.columns.put_number.Lts as lts
-use Rattle.text.proofs.columns.digit_or_space.Reads as digit-or-space-reads
 
 abbrev Inv-loop : tie.InvT-loop
 Inv-loop part₀ number column₀ rest₀ part column rest = Laid part₀ number part column rest

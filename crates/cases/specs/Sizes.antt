@@ -1,0 +1,6 @@
+-- A size that a contract names. Assumes nothing.
+use Prim.Native.Nat.{ℕ}
+
+-- the numbers that a list's report or scratch is lent at most
+abbrev pub mostRoom : ℕ
+mostRoom = 4096

@@ -1,0 +1,107 @@
+// A list's answer on standard output.
+ghost use Prim.Native.Nat.{_≤_};
+ghost use Rattle.cases.specs.Sizes.{mostRoom};
+use checks::buffers::PER_ROW;
+use fields::layout::MOST_AGES;
+use fields::layout::MOST_FIELDS;
+use fields::refusal::Reading;
+use fields::refusal::Refusal;
+use libc::STDOUT_FILENO;
+use losses::Answer;
+use stages::BeforeAges;
+use text::MOST_LINE;
+
+// Numbers that a list's report and scratch are lent at most.
+const MOST_ROOM: usize = 4096;
+
+const LINE_FEED: u8 = b'\n';
+
+fn print_numbers(numbers: &[u64]) {
+    let mut line = [0u8; MOST_LINE];
+    let bytes = text::line_of(numbers, &mut line);
+    io::write_all(STDOUT_FILENO, &line[..bytes]);
+}
+
+fn print_refusal(refusal: Refusal) {
+    let number = fields::refusal::number_of(refusal);
+    let place = fields::refusal::place_of(refusal);
+    print_numbers(&[number, place]);
+}
+
+fn print_before(before: BeforeAges) {
+    print_numbers(
+        &[
+            before.friction,
+            before.slip,
+            before.deflector,
+            before.early_relaxation,
+            before.shortening,
+            before.stress,
+        ],
+    );
+}
+
+// The bits of a double, as one decimal number; of a NaN, an empty line.
+fn print_bits(double: f64) {
+    if double == double {
+        io::print_decimal(STDOUT_FILENO, f64::to_bits(double));
+    }
+    io::write_all(STDOUT_FILENO, &[LINE_FEED]);
+}
+
+// A line for each row of a report.
+fn print_rows(report: &[u64; MOST_ROOM], ages: u64) {
+    if (MOST_AGES as u64) < ages {
+        return;
+    }
+    let mut row = 0usize;
+    let mut age = 0u64;
+    while age < ages {
+        print_numbers(
+            &[
+                report[row],
+                report[row + 1],
+                report[row + 2],
+                report[row + 3],
+            ],
+        );
+        row += PER_ROW;
+        age += 1;
+    }
+}
+
+// The rows of an accepted list: how many there are is read off the list once more.
+fn print_rows_of(list: &[f64], report: &[u64; MOST_ROOM]) {
+    let mut numbers = [0u64; MOST_FIELDS];
+    let Reading::Fields(_, ages) = list::read_list(list, &mut numbers) else {
+        return;
+    };
+    print_rows(report, ages);
+}
+
+// A room, or the most that there is.
+fn room_of(room: usize) -> usize
+    ensures { λ r. ⌜ r ≤ mostRoom ⌝ }
+{
+    if MOST_ROOM < room { MOST_ROOM } else { room }
+}
+
+// A list's answer, with room for so many numbers in report and scratch: number and place, 0 and 0 if it is accepted; then the
+// losses before the ages and the stress after them, the bits of the last stress as a double, and a line for each age's row.
+pub(crate) fn print_list(list: &[f64], report_room: usize, scratch_room: usize) {
+    let mut report = [0u64; MOST_ROOM];
+    let mut scratch = [0u64; MOST_ROOM];
+    let lent = room_of(report_room);
+    let spare = room_of(scratch_room);
+    match losses::run_list(list, &mut report[..lent], &mut scratch[..spare]) {
+        Answer::Refused(refusal) => print_refusal(refusal),
+        Answer::Accepted(reply) => {
+            let before = reply.before;
+            let last = reply.last;
+            print_numbers(&[0, 0]);
+            print_before(before);
+            print_bits(last);
+            print_rows_of(list, &report);
+        }
+    }
+}
