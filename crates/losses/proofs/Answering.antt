@@ -69,7 +69,7 @@ module _ (m : Member) (ages : List Age) (report scratchWas : List ℕ) where
     unfolding memberResult
     none-left age ran =
         let gone = gone-last (aged .stress) (aged .number) age (ran .result-is) in
-        refused-stress age (memberResult m ages) report scratch scratchWas (rw (sym begun, gone .0, gone .1)) (ran .kept)
+        refused-stress age (memberResult m ages) report scratch scratchWas (rw (sym begun, gone .0, gone .1)) (ran .scratch-length)
 
     pub all-passed : (stress : ℕ) (double : Float) (filled : List ℕ) → RanAges aged (m .ages) (Of stress) scratch scratchWas
         → IsExactly double stress → filled ≡ over (take (perRow * m .ages) scratch) report
@@ -79,13 +79,13 @@ module _ (m : Member) (ages : List Age) (report scratchWas : List ℕ) where
         let left = left-last (aged .stress) (aged .number) stress (ran .result-is) in
         let rows : length (aged .rows) ≡ perRow * m .ages = ran .all-passed .rows-length in
         let front : take (perRow * m .ages) scratch ≡ aged .rows =
-        ap (take (perRow * m .ages)) (ran .written)
+        ap (take (perRow * m .ages)) (ran .scratch-is)
         ∙ take-at (aged .rows) (drop (length (aged .rows)) scratchWas) (perRow * m .ages) rows in
         rw (sym begun, left) (record {
           answered = record { number-is = refl; values-are = rw (same-bits double stress exactly); double-is = exactly };
           report-is = rw front at filling;
           scratch-kept = λ free. let never : _≡_ {A = ℕ} 0 1 = cc in absurd (omega arith);
-          scratch-length = ran .kept;
+          scratch-length = ran .scratch-length;
         })
 
 -- a refusal before the run: both buffers are as they were

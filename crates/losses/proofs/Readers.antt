@@ -13,7 +13,7 @@ use Rattle.checks.specs.Readable.{ReadableIf}
 use Rattle.losses.specs.declared.Answer.{Answer}
 use Rattle.stages.specs.Run.{resultOfReading}
 use Rattle.losses.specs.Answers.{Ran}
-use Rattle.losses.specs.Promise.{resultOf, Close, Promise}
+use Rattle.losses.specs.Promise.{resultOf, CloseOutcome, Promise}
 use Rattle.losses.proofs.Closeness.{close}
 use Rattle.losses.proofs.Padding.{Same, same-ages, same-checked, over-zeros}
 
@@ -23,7 +23,7 @@ module _ (outcome : Outcome)
   few segments ages e = let good = counted segments ages e in (good .few-segments, good .few-ages)
 
   -- every result is close
-  pub all-close : (report scratch : ℕ) → Close outcome report scratch
+  pub all-close : (report scratch : ℕ) → CloseOutcome outcome report scratch
   all-close report scratch = close (outcome .reading) (outcome .numbers) report scratch few
 
   module _ (reading : Reading) (fields : List ℕ) (is : reading ≡ outcome .reading)

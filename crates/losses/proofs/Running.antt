@@ -128,8 +128,8 @@ module _ {m : Member} {fields : List ℕ} {first : ℕ} {old scratch : List ℕ}
       record {
         result-is = rw (aged, p .stress-is);
         all-passed = record { stress-fits = p .stress-fits; rows-length = rw (aged, append-nil) passed };
-        written = rw (aged, append-nil) (p .written);
-        kept = p .kept;
+        scratch-is = rw (aged, append-nil) (p .written);
+        scratch-length = p .kept;
       }
 
   module _ (more : number < m .ages) where
@@ -190,8 +190,8 @@ module _ {m : Member} {fields : List ℕ} {first : ℕ} {old scratch : List ℕ}
           record {
             result-is = rw aged;
             all-passed = tt;
-            written = rw (aged, append-nil) (p .written);
-            kept = p .kept;
+            scratch-is = rw (aged, append-nil) (p .written);
+            scratch-length = p .kept;
           }
 
       module _ (losses : Losses) (then : ℕ) (part : List ℕ) (passes : result ≡ By losses then)

@@ -1,6 +1,6 @@
 -- What an entry answers, and what it leaves of the lent buffers: document 01, "The card", from "The last stress also goes out" on, and
--- the last lines of "Refusal by place of checking". What a run gives and what an entry answers have each the paper's number and values,
--- by one definition for native and for C hosts. Assumes nothing.
+-- the last lines of "Refusal by place of checking". "For an answer that is an enum, a definition gives this paper's number and values
+-- for each case. The promises use that definition": the native one here, and the one for C hosts. Assumes nothing.
 use mathlib.Core.Path.{_≡_}
 use mathlib.Core.Bool.{Bool, true, false, not}
 use Prim.Native.Nat.{ℕ}
@@ -20,23 +20,31 @@ use Rattle.losses.specs.declared.Reply.{Reply}
 use Rattle.losses.specs.declared.Answer.{Answer}
 use Rattle.losses.specs.declared.Answer.the-variants.{Accepted as AcceptedRun, Refused as RefusedRun}
 
--- ---- the last stress as a double
+-- ---- "The last stress also goes out as the double whose value is exactly ticks/1024."
 
--- "the double whose value is exactly ticks/1024"
 abbrev pub IsExactly : Float → ℕ → Type 0
 IsExactly double ticks = HasValue double false ticks ticksPerUnit
 
--- that double: so many times 2 ^ -10
+-- one such double: so many times 2 ^ -10. All of them have the same bits.
 abbrev pub doubleOf : ℕ → Float
 doubleOf ticks = fin false ticks (negsuc 9)
 
--- ---- the paper's number and values
+-- ---- the number: "The refusal number (0 if accepted)"
 
--- "0 if accepted"
 abbrev pub acceptanceNumber : ℕ
 acceptanceNumber = 0
 
--- "place (0 if accepted), five losses, stress before the ages and last stress as a double", which is "by its bits"
+abbrev pub resultNumber : Result → ℕ
+resultNumber (reported before rows last) = acceptanceNumber
+resultNumber (refused refusal) = number refusal
+
+abbrev pub answerNumber : Answer → ℕ
+answerNumber (AcceptedRun reply) = acceptanceNumber
+answerNumber (RefusedRun refusal) = number refusal
+
+-- ---- the values
+
+-- "place (0 if accepted), five losses, stress before the ages and last stress as a double", "a double by its bits"
 abbrev pub acceptanceValues : BeforeAges → Float → List ℕ
 acceptanceValues before last =
     0 ∷ before .friction ∷ before .slip ∷ before .deflector ∷ before .«early_relaxation» ∷ before .shortening ∷ before .stress
@@ -46,26 +54,17 @@ acceptanceValues before last =
 abbrev pub refusalValues : Refusal → List ℕ
 refusalValues refusal = place refusal ∷ replicate 7 0
 
--- of what a run gives
-abbrev pub resultNumber : Result → ℕ
-resultNumber (reported before rows last) = acceptanceNumber
-resultNumber (refused refusal) = number refusal
-
 abbrev pub resultValues : Result → List ℕ
 resultValues (reported before rows last) = acceptanceValues before (doubleOf last)
 resultValues (refused refusal) = refusalValues refusal
-
--- of an entry's answer
-abbrev pub answerNumber : Answer → ℕ
-answerNumber (AcceptedRun reply) = acceptanceNumber
-answerNumber (RefusedRun refusal) = number refusal
 
 abbrev pub answerValues : Answer → List ℕ
 answerValues (AcceptedRun reply) = acceptanceValues (reply .before) (reply .last)
 answerValues (RefusedRun refusal) = refusalValues refusal
 
--- ---- what an entry answers
+-- ---- an answer has the number and the values of what the run gives
 
+-- the double in an accepted run's reply
 abbrev pub DoubleOut : Result → Answer → Type 0
 DoubleOut (reported before rows last) (AcceptedRun reply) = IsExactly (reply .last) last
 DoubleOut (reported before rows last) (RefusedRun refusal) = Unit {0}
@@ -78,7 +77,7 @@ pub record Answered (result : Result) (answer : Answer) : Type 0 where
 
 -- ---- what an entry leaves of the lent buffers
 
--- what is written to the report; "A refusal leaves the report unchanged"
+-- "A refusal leaves the report unchanged"; an accepted run "writes creep, shrinkage, relaxation, stress per age"
 abbrev pub rowsOf : Result → List ℕ
 rowsOf (reported before rows last) = rows
 rowsOf (refused refusal) = []
@@ -88,7 +87,8 @@ abbrev pub keepsScratch : Result → Bool
 keepsScratch (reported before rows last) = false
 keepsScratch (refused refusal) = not (eqb (number refusal) 7)
 
--- what an entry ensures of its answer and of the two lent buffers, as they are and as they were; "numbers past 4n unchanged"
+-- what an entry ensures of its answer and of the two lent buffers, as they are and as they were: the report with "numbers past 4n
+-- unchanged", and of the scratch, where it is undecided, "that it keeps its length"
 pub record Ran (result : Result) (answer : Answer) (report reportWas scratch scratchWas : List ℕ) : Type 0 where
   pub answered : Answered result answer
   pub report-is : report ≡ over (rowsOf result) reportWas

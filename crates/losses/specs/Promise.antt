@@ -25,10 +25,10 @@ CloseResult (Fields segments ages) fields result = CloseRun segments ages fields
 CloseResult (Not refusal) fields result = Unit {0}
 
 -- demand 3 of what a card or a list that reads so gives, with that room
-abbrev pub Close : Outcome → ℕ → ℕ → Type 0
-Close outcome report scratch = CloseResult (outcome .reading) (outcome .numbers) (resultOf outcome report scratch)
+abbrev pub CloseOutcome : Outcome → ℕ → ℕ → Type 0
+CloseOutcome outcome report scratch = CloseResult (outcome .reading) (outcome .numbers) (resultOf outcome report scratch)
 
--- report and scratch as they are and as they were
+-- demands 2 and 3 of an entry, report and scratch as they are and as they were
 pub record Promise (outcome : Outcome) (answer : Answer) (report reportWas scratch scratchWas : List ℕ) : Type 0 where
   pub exact : Ran (resultOf outcome (length reportWas) (length scratchWas)) answer report reportWas scratch scratchWas
-  pub close : Close outcome (length reportWas) (length scratchWas)
+  pub close : CloseOutcome outcome (length reportWas) (length scratchWas)

@@ -32,5 +32,5 @@ PassedIf (GoneAt number) ages rows = Unit {0}
 pub record RanAges (aged : Aged) (ages : ℕ) (result : LastStress) (scratch scratchWas : List ℕ) : Type 0 where
   pub result-is : result ≡ last aged
   pub all-passed : PassedIf result ages (aged .rows)
-  pub written : scratch ≡ over (aged .rows) scratchWas
-  pub kept : length scratch ≡ length scratchWas
+  pub scratch-is : scratch ≡ over (aged .rows) scratchWas
+  pub scratch-length : length scratch ≡ length scratchWas

@@ -65,7 +65,7 @@ report-rows-requires : tie.Need-report-rows-requires
 report-rows-requires c κs =
     let ran = c .before .before .before .before .before .before .before in
     let room = start (ran .before .before .before) .pre .room in
-    record { report-room = room .report-room; scratch-room = rw (ran .run-ages .ensures .kept) (room .scratch-room) }
+    record { report-room = room .report-room; scratch-room = rw (ran .run-ages .ensures .scratch-length) (room .scratch-room) }
 
 cast-double-of-ticks : tie.Need-cast-double-of-ticks
 cast-double-of-ticks c =
