@@ -1,34 +1,17 @@
--- Laws of refusals, of the counts, of amounts and of ages, each by cases or along its list. Assumes nothing.
+-- Laws of the counts, of amounts and of ages, each by cases or along its list. Assumes nothing.
 use mathlib.Core.Path.{_≡_, refl, ap}
 use mathlib.Core.Bool.{Bool, true, false, _||_}
 use mathlib.Core.List.{List, [], _∷_, _++_}
-use Prim.Native.Nat.{ℕ, zero, suc, _≤_, _<_}
+use Prim.Native.Nat.{ℕ, zero, suc, _≤_}
 use native.Mathlib.Omega.{arith}
 use lib.Dec.{ltb}
 use lib.ListN.{length, drop}
 use borrow.Author.Tests.{ltb-false}
 use Rattle.ticks.specs.declared.Amount.{Amount}
 use Rattle.ticks.specs.declared.Amount.the-variants.{Of, Refused}
-use Rattle.fields.specs.declared.refusal.Refusal.{Refusal}
-use Rattle.fields.specs.declared.refusal.Refusal.the-variants.{Shape, Doubles, Codes, Ranges, Hours, Duct, Buffers}
-use Rattle.fields.specs.declared.refusal.Refusal.the-variants.{Section, Creep, Stress}
-use Rattle.fields.specs.Refusals.{number}
 use Rattle.fields.specs.Layout.{leastAges, mostAges, agesOutOfRange, perAge}
 use Rattle.fields.specs.Amounts.{numbersIn}
 use Rattle.fields.specs.Quantities.{agesFrom}
-
--- 0 is an accepted run's
-pub refusal-number : (refusal : Refusal) → 0 < number refusal
-refusal-number (Shape line) = omega arith
-refusal-number (Doubles field) = omega arith
-refusal-number (Codes field) = omega arith
-refusal-number (Ranges field) = omega arith
-refusal-number (Hours field) = omega arith
-refusal-number (Duct p) = omega arith
-refusal-number (Buffers p) = omega arith
-refusal-number Section = omega arith
-refusal-number Creep = omega arith
-refusal-number (Stress age) = omega arith
 
 neither : (a b : Bool) → (a || b) ≡ false → (a ≡ false) × (b ≡ false)
 neither true b e = absurd (let z : _≡_ {A = ℕ} 0 1 = cc in omega arith)

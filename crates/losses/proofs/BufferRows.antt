@@ -4,7 +4,7 @@ use mathlib.Core.Path.{_≡_, refl, sym, ap, _∙_}
 use mathlib.Core.List.{List, [], _∷_, _++_}
 use Prim.Native.Nat.{ℕ, _+_, _-_, _*_, _≤_, _<_}
 use native.Mathlib.Omega.{arith}
-use lib.ListN.{length, getD, take, drop, set, length-drop}
+use lib.ListN.{length, getD, take, set, length-drop}
 use lib.Seq.{length-take-le, take-add}
 use borrow.Rule.Slice.PartMut.{midOf, putMid}
 use Rattle.checks.specs.Rows.{perRow}

@@ -1,8 +1,9 @@
+pub mod Deciding
 pub mod Doubles
 pub mod Readers
+pub mod Padding
 mod Accepting
 mod Answering
-mod Closeness
 mod BufferRows
-pub mod Padding
+mod Closeness
 mod Running

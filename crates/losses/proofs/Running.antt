@@ -25,7 +25,7 @@ use Rattle.losses.specs.declared.ages.LastStress.the-variants.{Of, GoneA
 use Rattle.stages.specs.Stresses.{after}
 use Rattle.stages.specs.Bounds.{Bounded, AgesBounded}
 use Rattle.stages.specs.Ages.{Start, Aged, behind, onward, nextStart, rowOf, lossesIn, agedFrom}
-use Rattle.stages.specs.Intervals.{endAt, transferEnd, lossesBetween, passing, passed}
+use Rattle.stages.specs.Intervals.{endAt, lossesBetween, passing, passed}
 use Rattle.losses.specs.RunAges.{RanAges}
 use Rattle.losses.specs.Conditions.{AgesRunnable}
 use Rattle.stages.specs.Run.{startOf}

@@ -16,7 +16,6 @@ use Rattle.fields.specs.Refusals.{number, place}
 use Rattle.fields.specs.Amounts.{over}
 use Rattle.stages.specs.declared.BeforeAges.{BeforeAges}
 use Rattle.stages.specs.Run.{Result, reported, refused}
-use Rattle.losses.specs.declared.Reply.{Reply}
 use Rattle.losses.specs.declared.Answer.{Answer}
 use Rattle.losses.specs.declared.Answer.the-variants.{Accepted as AcceptedRun, Refused as RefusedRun}
 
@@ -25,7 +24,7 @@ use Rattle.losses.specs.declared.Answer.the-variants.{Accepted as Accept
 abbrev pub IsExactly : Float → ℕ → Type 0
 IsExactly double ticks = HasValue double false ticks ticksPerUnit
 
--- one such double: so many times 2 ^ -10. All of them have the same bits.
+-- one such double: so many times 2 ^ -10. All of them have the same bits (law `same-bits`).
 abbrev pub doubleOf : ℕ → Float
 doubleOf ticks = fin false ticks (negsuc 9)
 
@@ -62,7 +61,7 @@ abbrev pub answerValues : Answer → List ℕ
 answerValues (AcceptedRun reply) = acceptanceValues (reply .before) (reply .last)
 answerValues (RefusedRun refusal) = refusalValues refusal
 
--- ---- an answer has the number and the values of what the run gives
+-- ---- an answer has the number and the values of what the run gives, which decide it (laws `refusal-number` and `one-refusal`)
 
 -- the double in an accepted run's reply
 abbrev pub DoubleOut : Result → Answer → Type 0

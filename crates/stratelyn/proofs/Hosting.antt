@@ -1,6 +1,6 @@
 -- What a host gets of a result: the number and the values of the run's answer are the result's, a refusal writes no row, and an accepted
 -- run's double has the bits that its value has. Assumes nothing.
-use mathlib.Core.Path.{_≡_, refl, sym, _∙_}
+use mathlib.Core.Path.{_≡_, refl, _∙_}
 use mathlib.Core.Bool.{not}
 use mathlib.Core.List.{List}
 use Prim.Native.Nat.{ℕ, _*_, _≤_}
@@ -11,12 +11,12 @@ use lib.ListN.{take}
 use Rattle.ticks.specs.Numbers.{bytesPerNumber}
 use Rattle.fields.specs.declared.refusal.Refusal.{Refusal}
 use Rattle.fields.specs.Refusals.{number}
-use Rattle.fields.proofs.Laws.{refusal-number}
 use Rattle.checks.specs.Rows.{perRow}
 use Rattle.losses.specs.declared.Reply.{Reply}
 use Rattle.losses.specs.declared.Answer.the-variants.{Accepted, Refused}
 use Rattle.stages.specs.Run.{Result, reported, refused}
 use Rattle.losses.specs.Answers.{acceptanceNumber, acceptanceValues, refusalValues, Answered}
+use Rattle.losses.proofs.Deciding.{refusal-number}
 use Rattle.losses.proofs.Doubles.{same-bits, finite}
 use Rattle.numbers.specs.Numbers.{room, bytesOfNumbers, written}
 use Rattle.stratelyn.specs.Parts.{Front, Rowed, Replied}

@@ -20,7 +20,6 @@ use Rattle.fields.proofs.Buffers.{length-over, written-behind}
 use Rattle.checks.specs.Rows.{perRow}
 use Rattle.fields.specs.declared.refusal.Refusal.{Refusal}
 use Rattle.fields.specs.Refusals.{number, place}
-use Rattle.fields.proofs.Laws.{refusal-number}
 use Rattle.stages.specs.declared.BeforeAges.{BeforeAges}
 use Rattle.stages.specs.Run.{Result, reported, refused, resultOfReading}
 use Rattle.card.specs.Card.{mostBytes, cardOutcome}
@@ -29,6 +28,7 @@ use Rattle.card.proofs.Behind.{behind}
 use Rattle.losses.specs.declared.Reply.{Reply}
 use Rattle.losses.specs.declared.Answer.the-variants.{Accepted, Refused}
 use Rattle.losses.specs.Answers.{Answered, rowsOf}
+use Rattle.losses.proofs.Deciding.{refusal-number}
 use Rattle.losses.proofs.Padding.{Same, drop-same, same-ages, over-zeros}
 use Rattle.losses.proofs.Readers.{same-result}
 use Rattle.text.specs.Columns.{lineOf, Holds}
