@@ -39,7 +39,8 @@ fn read_row(part: &[u64]) -> Row
     }
 }
 
-// The rows of so many ages, from the scratch to the report: the part of the report from an age's row on is lent to the row's writer.
+// The rows of so many ages, from the scratch to the report. "the rows of later ages go in the rest of the report buffer": the part from
+// the current row on is lent to the writer of the row.
 pub(crate) fn report_rows(ages: u64, scratch: &[u64], report: &mut [u64])
     requires { ⌜ RoomForRows ages (now report) (now scratch) ⌝ }
     ensures { λ _. ⌜ now (report .exit) ≡ over (take (perRow * ages) (now (scratch .entry))) (now (report .entry)) ⌝ }
