@@ -55,7 +55,7 @@ abbrev pub onward : Stress → (ℕ → Begun) → Begun
 onward Gone next = Fails
 onward (Left stress) next = next stress
 
--- "number 7 .. after a loss .. 0 before ages": looked for after each loss in turn
+-- row "stress" of the refusals, "0 before ages": looked for "after a loss", each in turn
 unfoldable pub begunOf : Member → Begun
 begunOf m =
     onward (after (jacked m) (frictionOf m)) (λ rubbed.

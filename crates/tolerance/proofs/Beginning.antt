@@ -33,12 +33,13 @@ use Rattle.tolerance.specs.Coefficients.{kappa}
 use Rattle.tolerance.specs.Steps.{shorteningLoss}
 use Rattle.tolerance.specs.Stresses.{hoursOf, jacked, logAt, concreteStressAt, earlyRelaxation, afterSegments, afterSlip}
 use Rattle.tolerance.specs.Stresses.{afterDeflector, afterEarly, afterShortening}
-use Rattle.tolerance.specs.Stresses.{coreAfterSegments, coreAfterSlip, coreAfterDeflector, coreAfterEarly}
+use Rattle.tolerance.specs.Stresses.{coreFriction, coreAfterSegments, coreAfterSlip, coreAfterDeflector, coreAfterEarly}
 use Rattle.tolerance.specs.Demand.{lossesBefore}
 use Rattle.tolerance.proofs.Rounded.{rounded-not-negative}
 use Rattle.tolerance.proofs.Concrete.{highestStress}
 use Rattle.tolerance.proofs.Logarithms.{Interval, interval, rise-not-negative, rise-top}
-use Rattle.tolerance.proofs.Path.{Spanned, segments-close, friction-close, slip-close, deflector-close}
+use Rattle.tolerance.proofs.Path.{Spanned, friction-of-part, friction-loss-most, segments-close, friction-close, slip-close}
+use Rattle.tolerance.proofs.Path.{deflector-close}
 use Rattle.tolerance.proofs.Relaxation.{relaxation-near}
 use Rattle.tolerance.proofs.RelaxationSlope.{mostStress, relaxation-slow, room, core-room}
 use Rattle.tolerance.proofs.Shortening.{shortening-near, shortening-keeps-distance}
@@ -151,6 +152,11 @@ module _ {segments ages report scratch : ℕ} {fields : List ℕ} (facts : Facts
   pub jacked-is : jacked fields ≡ before .stress + lossesBefore before
   unfolding memberOf
   jacked-is = began .closes
+
+  -- the friction of the first j segments is not above the jacking stress
+  pub friction-leaves : (j : ℕ) → coreFriction segments fields j ≤ jacked fields
+  friction-leaves j =
+      friction-loss-most (jacked fields) _ (le-trans (friction-of-part (wobble fields) (curvature fields) path j) friction-fits)
 
   module _ {δ step : ℕ} {log : ℕ → Fraction} (allowed : Allowance δ step log) where
     -- what a segment costs

@@ -27,6 +27,10 @@ chain-at {step} {k} (one-step near chain) zero h =
 chain-at {step} {k} (one-step near chain) (suc i) h =
     within-weaken (whole-order (mul-le-mul-right step (omega arith))) (chain-at chain i (omega arith))
 
+pub chain-lengths : {step k : ℕ} {xs : List ℕ} {ys : List Fraction} → Chain step k xs ys → length ys ≡ length xs
+chain-lengths no-step = refl
+chain-lengths (one-step near chain) = ap suc (chain-lengths chain)
+
 -- ---- f 1, .. , f count, and what follows
 
 module _ {A : Type 0} (f : ℕ → A) where

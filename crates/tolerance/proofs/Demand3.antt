@@ -2,7 +2,7 @@
 -- relaxation, shortening and the ages, near each other after every step; the two tolerances are one lemma, at the allowances of 1 and
 -- of 40 psi a step. That no stress rises, that the losses and the last stress add up to the jacking stress, and that the numbers are
 -- those reported, is read off the run. Assumes nothing.
-use mathlib.Core.Path.{_≡_}
+use mathlib.Core.Path.{_≡_, _∙_}
 use mathlib.Core.List.{List, _∷_}
 use Prim.Native.Nat.{ℕ, suc, _+_, _-_, _*_, _≤_}
 use native.Mathlib.Nat.{le-of-eq, mul-le-mul-right}
@@ -24,14 +24,14 @@ use Rattle.stages.specs.Run.{reported, startOf, memberResult}
 use Rattle.tolerance.specs.Stresses.{jacked, afterSegments}
 use Rattle.tolerance.specs.Stresses.{coreAfterSegments, coreAfterSlip, coreAfterEarly, exactStresses, coreStresses}
 use Rattle.tolerance.specs.Stresses.{reported as stressesOfRows}
-use Rattle.tolerance.specs.Demand.{Close, Falls, Demand3, stepsOf, lossesBefore, lossesOfRows}
+use Rattle.tolerance.specs.Demand.{Close, Falls, Linked, Demand3, stepsOf, lossesBefore, lossesOfRows}
 use Rattle.tolerance.proofs.Path.{friction-falls}
 use Rattle.tolerance.proofs.Bounds.{known, low}
 use Rattle.tolerance.proofs.Allowance.{Allowance, narrow-allowance, wide-allowance}
-use Rattle.tolerance.proofs.Chains.{Chain, one-step, chain-at, chain-each, falls-each, each-length-then, each-then}
+use Rattle.tolerance.proofs.Chains.{Chain, one-step, chain-at, chain-lengths, chain-each, falls-each, each-length-then, each-then}
 use Rattle.tolerance.proofs.Run.{Began, AgesRun, run, ages-fall, ages-close-up, ages-end, rows-length}
-use Rattle.tolerance.proofs.Beginning.{path-length, jacked-is, friction-is, along-path, after-slip, after-deflector}
-use Rattle.tolerance.proofs.Beginning.{after-early, after-shortening}
+use Rattle.tolerance.proofs.Beginning.{path-length, jacked-is, friction-is, friction-leaves}
+use Rattle.tolerance.proofs.Beginning.{along-path, after-slip, after-deflector, after-early, after-shortening}
 use Rattle.tolerance.proofs.Ages.{ages-chain}
 
 module _ {segments ages report scratch : ℕ} {fields : List ℕ} (facts : Facts segments ages fields report scratch)
@@ -79,8 +79,13 @@ module _ {segments ages report scratch : ℕ} {fields : List ℕ} (facts : Facts
         (low (known facts) (before .stress) (omega (arith, jacked-is facts began)))
         (suc (suc (suc segments))) _ (omega (arith, list-length)) shortened)))))
 
+    exact-count : length (exactStresses log segments ages fields) ≡ stepsOf segments ages
+    exact-count = chain-lengths chain ∙ count
+
     close : Close step log segments ages fields before rows
     close = record {
+      core-count = count;
+      exact-count = exact-count;
       steps = λ k h. within-weaken (whole-order (mul-le-mul-right step (omega arith))) (chain-at chain k (omega (arith, count)));
       deflector = after-deflector facts began allowed;
     }
@@ -113,11 +118,19 @@ module _ {segments ages report scratch : ℕ} {fields : List ℕ} (facts : Facts
   closes : jacked fields ≡ last + lossesBefore before + lossesOfRows ages rows
   closes = let ages-add-up = rw list-length at (ages-close-up aged) in omega (arith, jacked-is facts began)
 
-  linked : getD (coreStresses segments ages fields before rows) (segments + ages + 2) 0 ≡ last
-  linked =
+  reported-last : getD (coreStresses segments ages fields before rows) (segments + ages + 2) 0 ≡ last
+  reported-last =
       let place : segments + ages + 2 ≡ segments + suc (suc ages) = omega arith in
       rw (place, each-then (coreAfterSegments segments fields) segments rest (suc (suc ages)) 0)
       (rw list-length at (ages-end aged))
+
+  linked : Linked segments ages fields before rows last
+  linked = record {
+    path = λ j h. omega (arith, friction-leaves facts began j);
+    path-end = omega (arith, end-of-path, jacked-is facts began);
+    reply = omega (arith, jacked-is facts began);
+    report = reported-last;
+  }
 
 pub demand-3 : (segments ages : ℕ) (fields : List ℕ) (report scratch : ℕ) → segments ≤ mostSegments → ages ≤ mostAges
     → Facts segments ages fields report scratch
@@ -131,6 +144,5 @@ demand-3 segments ages fields report scratch segments≤ ages≤ facts before ro
       wide = λ log admissible. close facts segments≤ ages≤ began ran (wide-allowance admissible);
       falls = falls facts segments≤ ages≤ began ran;
       closes = closes facts segments≤ ages≤ began ran;
-      count = count facts segments≤ ages≤ began ran;
       linked = linked facts segments≤ ages≤ began ran;
     }

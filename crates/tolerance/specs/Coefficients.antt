@@ -1,5 +1,5 @@
 -- Friction, κ, U, S and the shares without rounding, beside the definitions in ticks: `Friction` and `Constants` of `member`, `Lines`
--- of `coefficient`. SCF, SSF and MCF are whole by themselves. Assumes nothing.
+-- of `tables`. SCF, SSF and MCF are whole by themselves. Assumes nothing.
 use Prim.Native.Nat.{ℕ, _-_, _*_, _^_}
 use mathlib.Core.Bool.{cond}
 use mathlib.Core.List.{List, [], _∷_}

@@ -9,9 +9,10 @@ use Rattle.fields.specs.Quantities.{segmentsOf}
 use Rattle.checks.specs.Rows.{perRow}
 use Rattle.stages.specs.declared.BeforeAges.{BeforeAges}
 use Rattle.tolerance.specs.Logarithms.{Admissible, tableLogarithm}
-use Rattle.tolerance.specs.Stresses.{jacked, afterDeflector, exactStresses, coreAfterDeflector, coreStresses}
+use Rattle.tolerance.specs.Stresses.{jacked, afterDeflector, exactStresses}
+use Rattle.tolerance.specs.Stresses.{coreFriction, coreAfterSegments, coreAfterDeflector, coreStresses}
 
--- "1 psi a step", and "40 with other logarithms", in ticks
+-- what the demand allows a step: 1 psi where both read the core's logarithms, 40 psi where the fractions read others; in ticks
 abbrev pub narrowStep : ℕ
 narrowStep = 1 * ticksPerUnit
 
@@ -22,9 +23,11 @@ wideStep = 40 * ticksPerUnit
 abbrev pub stepsOf : ℕ → ℕ → ℕ
 stepsOf segments ages = segments + ages + 3
 
--- after every step k, counted from 1, the two stresses differ by at most k times `step` ticks; "what holds after slip holds after" the
--- deflector loss, which is no step
+-- two lists with a stress for each step. After every step k, counted from 1, the two stresses differ by at most k times `step` ticks;
+-- "what holds after slip holds after" the deflector loss, which is no step
 pub record Close (step : ℕ) (log : ℕ → Fraction) (segments ages : ℕ) (fields : List ℕ) (before : BeforeAges) (rows : List ℕ) : Type 0 where
+  pub core-count : length (coreStresses segments ages fields before rows) ≡ stepsOf segments ages
+  pub exact-count : length (exactStresses log segments ages fields) ≡ stepsOf segments ages
   pub steps : (k : ℕ) → k < stepsOf segments ages
       → Within (whole (suc k * step)) (whole (getD (coreStresses segments ages fields before rows) k 0))
       (getD (exactStresses log segments ages fields) k (whole 0))
@@ -45,11 +48,18 @@ unfoldable pub lossesOfRows : ℕ → List ℕ → ℕ
 lossesOfRows zero rows = 0
 lossesOfRows (suc ages) rows = getD rows 0 0 + getD rows 1 0 + getD rows 2 0 + lossesOfRows ages (drop perRow rows)
 
+-- "the core's after a step is the one these lines give in ticks, and where reply or report has it, the number there". What `coreStresses`
+-- takes off is there, as these sums say, so none of its differences is cut at 0.
+pub record Linked (segments ages : ℕ) (fields : List ℕ) (before : BeforeAges) (rows : List ℕ) (last : ℕ) : Type 0 where
+  pub path : (j : ℕ) → j ≤ segments → coreAfterSegments segments fields j + coreFriction segments fields j ≡ jacked fields
+  pub path-end : coreAfterSegments segments fields segments + before .friction ≡ jacked fields
+  pub reply : before .stress + lossesBefore before ≡ jacked fields
+  pub report : getD (coreStresses segments ages fields before rows) (segments + ages + 2) 0 ≡ last
+
 -- "Demand 3 is one claim over the whole run"
 pub record Demand3 (segments ages : ℕ) (fields : List ℕ) (before : BeforeAges) (rows : List ℕ) (last : ℕ) : Type 0 where
   pub narrow : Close narrowStep tableLogarithm segments ages fields before rows
   pub wide : (log : ℕ → Fraction) → Admissible log → Close wideStep log segments ages fields before rows
   pub falls : Falls (jacked fields) (coreStresses segments ages fields before rows)
   pub closes : jacked fields ≡ last + lossesBefore before + lossesOfRows ages rows
-  pub count : length (coreStresses segments ages fields before rows) ≡ stepsOf segments ages
-  pub linked : getD (coreStresses segments ages fields before rows) (segments + ages + 2) 0 ≡ last
+  pub linked : Linked segments ages fields before rows last

@@ -119,10 +119,13 @@ coreAfterDeflector fields before = coreAfterSlip fields before - before .deflect
 abbrev pub coreAfterEarly : List ℕ → BeforeAges → ℕ
 coreAfterEarly fields before = coreAfterDeflector fields before - before .«early_relaxation»
 
+-- "Loss f·X/T; the stress after j segments takes X of the first j"
+abbrev pub coreFriction : ℕ → List ℕ → ℕ → ℕ
+coreFriction segments fields j =
+    ticksFrictionLoss (jacked fields) (ticksFriction (wobble fields) (curvature fields) (take j (segmentsOf segments fields)))
+
 abbrev pub coreAfterSegments : ℕ → List ℕ → ℕ → ℕ
-coreAfterSegments segments fields j =
-    jacked fields
-    - ticksFrictionLoss (jacked fields) (ticksFriction (wobble fields) (curvature fields) (take j (segmentsOf segments fields)))
+coreAfterSegments segments fields j = jacked fields - coreFriction segments fields j
 
 abbrev pub coreStresses : ℕ → ℕ → List ℕ → BeforeAges → List ℕ → List ℕ
 coreStresses segments ages fields before rows =
