@@ -19,6 +19,7 @@ use Rattle.fields.specs.Amounts.{over, Outcome, refused, accepted}
 use Rattle.line.specs.Line.{lineLength}
 use Rattle.card.specs.Card.{Lines, readLines, fieldsOn, bytesOn, headLines, head, firstSegmentLine, lineBehind}
 use Rattle.card.specs.Card.{announcedOf, segmentsIn, agesIn, announced, firstWrong, cardOutcome}
+use Rattle.card.specs.Bounds.{AnnouncedFit}
 use Rattle.fields.proofs.Buffers.{length-over, tail, written-behind}
 use Rattle.card.proofs.Lines.{Right, lines-right}
 use Rattle.card.proofs.Lines.{andThen, readLines-append, readLines-stops, LinesRead}
@@ -58,9 +59,7 @@ segmentNumbers segments = perSegment * segments
 
 -- the lines of segments were read into a buffer
 pub record SegmentsRead (part old : List ℕ) (segments ages wrong : ℕ) (buffer : List ℕ) : Type 0 where
-  pub few : segments ≤ mostSegments
-  pub few-ages : ages ≤ mostAges
-  pub room : perSegment * segments + perAge * ages ≤ length old
+  pub fits : AnnouncedFit segments ages old
   pub read : LinesRead (readLines (take segments (replicate mostSegments perSegment)) firstSegmentLine firstSegmentField part)
       old buffer wrong
 
@@ -78,7 +77,7 @@ module _ {part old : List ℕ} {segments ages wrong : ℕ} {buffer : List ℕ}
   ofSegments = readLines (replicate segments perSegment) firstSegmentLine firstSegmentField part
 
   segments-read : LinesRead ofSegments old buffer wrong
-  segments-read = rw (take-replicate segments mostSegments perSegment (first .few)) at (first .read)
+  segments-read = rw (take-replicate segments mostSegments perSegment (first .fits .segments-most)) at (first .read)
 
   pub segment-wrong : 0 < wrong → AnnouncedRead part segments ages old buffer wrong
   segment-wrong h =
@@ -104,7 +103,7 @@ module _ {part old : List ℕ} {segments ages wrong : ℕ} {buffer : List ℕ}
     pub buffer-long : length buffer ≡ length old
     buffer-long =
         let n = numbers-long in
-        let r = first .room in
+        let r = first .fits .room in
         ap length (segments-read .1) ∙ length-over (ofSegments .numbers) old (omega arith)
 
     module _ {wrong-age : ℕ} {after : List ℕ} (second : AgesRead part segments ages buffer wrong-age after) where
@@ -121,7 +120,7 @@ module _ {part old : List ℕ} {segments ages wrong : ℕ} {buffer : List ℕ}
 
       ages-read : LinesRead ofAges lentPart after wrong-age
       ages-read =
-          rw (take-replicate ages mostAges perAge (first .few-ages), tail part (segmentBytes segments)) at (second .read)
+          rw (take-replicate ages mostAges perAge (first .fits .ages-most), tail part (segmentBytes segments)) at (second .read)
 
       all-is : announcedOf segments ages part ≡ andThen ofSegments ofAges
       all-is =

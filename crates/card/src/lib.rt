@@ -1,10 +1,11 @@
 // The reader of cards.
 ghost use mathlib.Core.Path.{_≡_};
-ghost use Prim.Native.Nat.{_+_, _*_, _≤_, _<_};
+ghost use Prim.Native.Nat.{_≤_};
 ghost use lib.ListN.{length};
-ghost use Rattle.fields.specs.Layout.{mostFields, mostSegments, mostAges, perSegment, perAge};
+ghost use Rattle.fields.specs.Layout.{mostFields};
 ghost use Rattle.fields.specs.Amounts.{over};
-ghost use Rattle.card.specs.Card.{readLines, fieldsOn, announcedOf, lineBehind, firstWrong, cardOutcome};
+ghost use Rattle.card.specs.Card.{readLines, announcedOf, lineBehind, firstWrong, cardOutcome};
+ghost use Rattle.card.specs.Bounds.{LinesFit, AnnouncedFit};
 use fields::layout::AGES;
 use fields::layout::HEAD_FIELDS;
 use fields::layout::LEAST_AGES;
@@ -35,9 +36,7 @@ const SEGMENT_FIELD: usize = HEAD_FIELDS + 1;
 // Lines of `counts` fields each, from the front of `part` on; the first is line `line` and begins with field `field`. The first
 // wrong line, or 0; the numbers before the first wrong field are written at the front of `fields`.
 fn read_lines(part: &[u8], counts: &[usize], line: usize, field: usize, fields: &mut [u64]) -> usize
-    requires { ⌜ fieldsOn (now counts) ≤ length (now fields) ⌝ }
-    requires { ⌜ (0 < line) × (line ≤ mostFields) ⌝ }
-    requires { ⌜ field ≤ mostFields ⌝ }
+    requires { ⌜ LinesFit (now counts) line field (now fields) ⌝ }
     ensures { λ r. ⌜ r ≡ readLines (now (counts .entry)) line field (now (part .entry)) .wrong ⌝ }
     ensures { λ r. ⌜ now (fields .exit)
         ≡ over (readLines (now (counts .entry)) line field (now (part .entry)) .numbers) (now (fields .entry)) ⌝ }
@@ -59,9 +58,7 @@ fn read_lines(part: &[u8], counts: &[usize], line: usize, field: usize, fields: 
 
 // The lines of segments and of ages, which end the card. The first wrong line, or 0.
 fn read_announced(part: &[u8], segments: usize, ages: usize, fields: &mut [u64]) -> usize
-    requires { ⌜ segments ≤ mostSegments ⌝ }
-    requires { ⌜ ages ≤ mostAges ⌝ }
-    requires { ⌜ perSegment * segments + perAge * ages ≤ length (now fields) ⌝ }
+    requires { ⌜ AnnouncedFit segments ages (now fields) ⌝ }
     ensures { λ r. ⌜ r ≡ firstWrong (announcedOf segments ages (now (part .entry))) (lineBehind segments ages) ⌝ }
     ensures { λ r. ⌜ now (fields .exit) ≡ over (announcedOf segments ages (now (part .entry)) .numbers) (now (fields .entry)) ⌝ }
 {

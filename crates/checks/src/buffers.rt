@@ -1,15 +1,14 @@
 // Row "buffers".
 ghost use mathlib.Core.Path.{_≡_};
-ghost use Prim.Native.Nat.{_≤_};
-ghost use Rattle.fields.specs.Layout.{mostAges};
 ghost use Rattle.checks.specs.Rows.{firstFailing, buffers};
+ghost use Rattle.checks.specs.Readable.{AgeCount};
 use crate::row;
 
 // Creep, shrinkage, relaxation and stress of an age.
 pub const PER_ROW: usize = 4;
 
 pub fn first_failing(ages: usize, report: usize, scratch: usize) -> u64
-    requires { ⌜ ages ≤ mostAges ⌝ }
+    requires { ⌜ AgeCount ages ⌝ }
     ensures { λ r. ⌜ r ≡ firstFailing (buffers ages report scratch) ⌝ }
 {
     let rows = PER_ROW * ages;

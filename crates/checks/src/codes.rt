@@ -1,9 +1,9 @@
 // Row "codes". A place is the number of a field.
 ghost use mathlib.Core.Path.{_≡_};
-ghost use Prim.Native.Nat.{_≤_};
-ghost use Rattle.fields.specs.Layout.{firstSegmentField, mostSegments};
+ghost use Rattle.fields.specs.Layout.{firstSegmentField};
 ghost use Rattle.fields.specs.Quantities.{segmentsOf};
 ghost use Rattle.checks.specs.Rows.{firstFailing, headCodes, segmentCodes, codes};
+ghost use Rattle.checks.specs.Readable.{SegmentCount};
 use crate::row;
 use fields::layout::HEAD_FIELDS;
 use fields::layout::MOST_FIELDS;
@@ -27,7 +27,7 @@ fn head_codes(fields: &[u64; MOST_FIELDS]) -> u64
 }
 
 fn segment_codes(fields: &[u64; MOST_FIELDS], segments: usize) -> u64
-    requires { ⌜ segments ≤ mostSegments ⌝ }
+    requires { ⌜ SegmentCount segments ⌝ }
     ensures { λ r. ⌜ r ≡ firstFailing (segmentCodes firstSegmentField (segmentsOf segments (now (fields .entry)))) ⌝ }
 {
     let mut segment = 0usize;
@@ -49,7 +49,7 @@ fn segment_codes(fields: &[u64; MOST_FIELDS], segments: usize) -> u64
 }
 
 pub fn first_failing(fields: &[u64; MOST_FIELDS], segments: usize) -> u64
-    requires { ⌜ segments ≤ mostSegments ⌝ }
+    requires { ⌜ SegmentCount segments ⌝ }
     ensures { λ r. ⌜ r ≡ firstFailing (codes segments (now (fields .entry))) ⌝ }
 {
     row::or_else(head_codes(fields), segment_codes(fields, segments))

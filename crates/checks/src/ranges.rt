@@ -1,11 +1,10 @@
 // Row "ranges", line by line of the card. A place is the number of a field.
 ghost use mathlib.Core.Path.{_≡_};
-ghost use Prim.Native.Nat.{_≤_};
-ghost use Rattle.fields.specs.Layout.{firstSegmentField, firstAgeField, mostSegments};
+ghost use Rattle.fields.specs.Layout.{firstSegmentField, firstAgeField};
 ghost use Rattle.fields.specs.Quantities.{segmentsOf, agesOf, ownWeightMoment};
 ghost use Rattle.checks.specs.Rows.{firstFailing, lengthFits, riseFits, rangesOfLine1, rangesOfLine2};
 ghost use Rattle.checks.specs.Rows.{rangesOfLine3, rangesOfLine4, rangesOfSegments, rangesOfMoments, ranges};
-ghost use Rattle.checks.specs.Readable.{Small, Readable};
+ghost use Rattle.checks.specs.Readable.{Small, SegmentCount, Readable};
 ghost use Rattle.checks.specs.Parts.{segment};
 use crate::limits;
 use crate::row;
@@ -135,7 +134,7 @@ fn rise_fits(kind: u64, length: u64, rise: u64) -> bool
 }
 
 fn segment_ranges(fields: &[u64; MOST_FIELDS], segments: usize) -> u64
-    requires { ⌜ segments ≤ mostSegments ⌝ }
+    requires { ⌜ SegmentCount segments ⌝ }
     ensures { λ r. ⌜ r ≡ firstFailing (rangesOfSegments firstSegmentField (segmentsOf segments (now (fields .entry)))) ⌝ }
 {
     let mut segment = 0usize;

@@ -1,10 +1,11 @@
 // A line of a card, and its fields.
 ghost use mathlib.Core.Path.{_≡_};
-ghost use Prim.Native.Nat.{_+_, _^_, _≤_, _<_};
+ghost use Prim.Native.Nat.{_≤_};
 ghost use lib.ListN.{length, take, drop};
 ghost use Rattle.fields.specs.Layout.{columns};
 ghost use Rattle.fields.specs.Amounts.{over};
 ghost use Rattle.line.specs.Line.{spacesIn, digitsOf, fieldAt, amountOf, isRight, lineNumbers};
+ghost use Rattle.line.specs.Bounds.{LineFits};
 use fields::layout::SLIP;
 use ticks::Amount;
 
@@ -104,8 +105,7 @@ fn amount_of(field: usize, found: Field) -> Amount
 // The line at the front of `part`: `count` fields, the first of them numbered `field`. Whether it is right; the numbers before
 // its first wrong field are written at the front of `fields`.
 pub fn read_line(part: &[u8], count: usize, field: usize, fields: &mut [u64]) -> bool
-    requires { ⌜ count ≤ length (now fields) ⌝ }
-    requires { ⌜ field + count < 2 ^ 64 ⌝ }
+    requires { ⌜ LineFits count field (now fields) ⌝ }
     ensures { λ r. ⌜ r ≡ isRight count field (now (part .entry)) ⌝ }
     ensures { λ r. ⌜ now (fields .exit) ≡ over (lineNumbers count field (now (part .entry))) (now (fields .entry)) ⌝ }
 {

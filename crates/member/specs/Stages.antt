@@ -1,5 +1,7 @@
--- The last rows of `checkedOf`, from the duct on and from the section on, by themselves. Assumes nothing.
+-- The last rows of `checkedOf`, from the duct on and from the section on, by themselves; and what the code has computed of the fields when
+-- they are passed. It serves the code alone. Assumes nothing.
 use Prim.Native.Nat.{ℕ, _*_}
+use mathlib.Core.Path.{_≡_}
 use mathlib.Core.Bool.{cond}
 use mathlib.Core.List.{List}
 use lib.Dec.{ltb}
@@ -20,3 +22,9 @@ unfolding fromSection
 fromDuct segments ages fields report scratch =
     unlessFails (firstFailing (duct (isPretensioned fields) segments (frictionOf segments fields))) Duct
     (unlessFails (firstFailing (buffers ages report scratch)) Buffers (fromSection segments ages fields))
+
+-- what a member is made of, beside its fields
+pub record Computed (segments : ℕ) (fields : List ℕ) (friction kappa creep : ℕ) : Type 0 where
+  pub friction-is : friction ≡ frictionOf segments fields
+  pub kappa-is : kappa ≡ kappaOf fields
+  pub creep-is : creep ≡ creepOf fields

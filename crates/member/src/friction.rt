@@ -35,7 +35,7 @@ fn curvature_part(curvature: u64, kind: u64, length: u64, rise: u64) -> u64
     0
 }
 
-pub fn path_friction(fields: &[u64; MOST_FIELDS], segments: usize) -> u64
+pub(crate) fn path_friction(fields: &[u64; MOST_FIELDS], segments: usize) -> u64
     requires { ⌜ PathFits segments (now fields) ⌝ }
     ensures { λ r. ⌜ r ≡ frictionOf segments (now (fields .entry)) ⌝ }
 {

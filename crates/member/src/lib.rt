@@ -3,8 +3,8 @@ ghost use mathlib.Core.Path.{_≡_};
 ghost use Prim.Native.Nat.{_≤_};
 ghost use Rattle.checks.specs.Readable.{Readable};
 ghost use Rattle.member.specs.Facts.{HeadFits, PathFits, mostCreep, hoursOf};
-ghost use Rattle.member.specs.Member.{frictionOf, kappaOf, creepOf, shrinkageOf, memberOf, checkedOf};
-ghost use Rattle.member.specs.Stages.{fromDuct, fromSection};
+ghost use Rattle.member.specs.Member.{frictionOf, creepOf, shrinkageOf, memberOf, checkedOf};
+ghost use Rattle.member.specs.Stages.{fromDuct, fromSection, Computed};
 
 pub mod codes;
 pub mod friction;
@@ -95,7 +95,7 @@ fn member_of(
     creep: u64,
 ) -> Member
     requires { ⌜ HeadFits (now fields) ⌝ }
-    requires { ⌜ (friction ≡ frictionOf segments (now fields)) × (kappa ≡ kappaOf (now fields)) × (creep ≡ creepOf (now fields)) ⌝ }
+    requires { ⌜ Computed segments (now fields) friction kappa creep ⌝ }
     ensures { λ r. ⌜ r ≡ memberOf segments ages (now (fields .entry)) ⌝ }
 {
     Member {

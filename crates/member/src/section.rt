@@ -17,7 +17,7 @@ const CREEP_DIVISOR: u64 = 439_453_125;
 // "S = USH·SSF/10^8"
 const SHRINKAGE_DIVISOR: u64 = 100_000_000;
 
-pub fn kappa_of(steel_area: u64, area: u64, eccentricity: u64, inertia: u64) -> u64
+pub(crate) fn kappa_of(steel_area: u64, area: u64, eccentricity: u64, inertia: u64) -> u64
     requires { ⌜ SectionFits «steel_area» area eccentricity inertia ⌝ }
     ensures { λ r. ⌜ r ≡ kappa «steel_area» area eccentricity inertia ⌝ }
 {

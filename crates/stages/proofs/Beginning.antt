@@ -1,6 +1,6 @@
 -- How the losses before the ages go one after the other: three at once, then early relaxation, then shortening. Assumes nothing.
 use mathlib.Core.Path.{_≡_, refl, sym, ap, _∙_, subst}
-use Prim.Native.Nat.{ℕ, _^_, _≤_, _<_}
+use Prim.Native.Nat.{ℕ, _≤_, _<_}
 use native.Mathlib.Nat.{le-trans, sub-zero}
 use native.Mathlib.Omega.{arith}
 use Rattle.logarithm.proofs.Laws.{at-first-hour}
@@ -8,6 +8,7 @@ use Rattle.coefficient.specs.declared.codes.Kind.{Kind}
 use Rattle.coefficient.specs.declared.codes.Kind.the-variants.{Pretensioned, PostTensioned}
 use Rattle.member.specs.declared.Member.{Member}
 use Rattle.steps.specs.Steps.{relaxationLoss}
+use Rattle.steps.specs.Bounds.{stressLimit}
 use Rattle.stages.specs.declared.Stress.{Stress}
 use Rattle.stages.specs.declared.Stress.the-variants.{Left, Gone}
 use Rattle.stages.specs.declared.BeforeAges.{BeforeAges}
@@ -59,7 +60,7 @@ module _ (m : Member) (stress : ℕ) where
   relaxes-late kind = rw kind
 
   -- what is left fits as the jacking stress does
-  pub deflected-fits : Bounded m → afterThree (jacked m) (frictionOf m) (slipOf m) (deflectorOf m) ≡ Left stress → stress < 2 ^ 28
+  pub deflected-fits : Bounded m → afterThree (jacked m) (frictionOf m) (slipOf m) (deflectorOf m) ≡ Left stress → stress < stressLimit
   deflected-fits bounds e =
       let most = after-three-most (jacked m) (frictionOf m) (slipOf m) (deflectorOf m) stress e in
       omega arith
@@ -116,7 +117,7 @@ goes-on Gone next before e = let never : _≡_ {A = ℕ} 0 1 = cc in absurd (ome
 goes-on (Left stress) next before e = record { stress = stress; left-is = refl; next-is = e }
 
 -- the stress before the ages fits as the jacking stress does
-pub begun-fits : (m : Member) (before : BeforeAges) → Bounded m → Begins before ≡ begunOf m → before .stress < 2 ^ 28
+pub begun-fits : (m : Member) (before : BeforeAges) → Bounded m → Begins before ≡ begunOf m → before .stress < stressLimit
 begun-fits m before bounds e =
     let first = goes-on _ _ before (sym (from m) ∙ sym e) in
     let second = goes-on _ _ before (first .next-is) in

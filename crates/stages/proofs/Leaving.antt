@@ -1,10 +1,11 @@
 -- What a loss leaves of a stress: which case it is, and that it is never more than the stress. Assumes nothing.
 use mathlib.Core.Path.{_≡_}
 use mathlib.Core.Bool.{Bool, true, false, cond}
-use Prim.Native.Nat.{ℕ, _+_, _-_, _^_, _≤_, _<_}
+use Prim.Native.Nat.{ℕ, _+_, _-_, _≤_, _<_}
 use native.Mathlib.Omega.{arith}
 use lib.Dec.{leb}
 use borrow.Author.Tests.{le-leb, lt-leb}
+use Rattle.steps.specs.Bounds.{stressLimit}
 use Rattle.stages.specs.declared.Stress.the-variants.{Left, Gone}
 use Rattle.stages.specs.Stresses.{leastStress, after}
 
@@ -22,5 +23,5 @@ most false stress loss left e = let never : _≡_ {A = ℕ} 0 1 = cc in absurd (
 pub never-more : (stress loss left : ℕ) → after stress loss ≡ Left left → left ≤ stress
 never-more stress loss left e = most (leb (loss + leastStress) stress) stress loss left e
 
-pub left-fits : (stress loss left : ℕ) → stress < 2 ^ 28 → after stress loss ≡ Left left → left < 2 ^ 28
+pub left-fits : (stress loss left : ℕ) → stress < stressLimit → after stress loss ≡ Left left → left < stressLimit
 left-fits stress loss left fits e = let most = never-more stress loss left e in omega arith

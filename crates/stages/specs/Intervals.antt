@@ -1,7 +1,6 @@
 -- What the run carries from one interval to the next: the definitions of `Ages` over the two ends of an interval, so that each end is
 -- read once. Assumes nothing.
-use Prim.Native.Nat.{ℕ, _+_, _-_, _≤_}
-use Rattle.tables.specs.Tables.{T}
+use Prim.Native.Nat.{ℕ, _+_, _-_}
 use Rattle.member.specs.declared.Member.{Member}
 use Rattle.steps.specs.Steps.{concreteStress, creepLoss, shrinkageLoss, relaxationLoss}
 use Rattle.stages.specs.declared.Stress.{Stress}
@@ -48,9 +47,3 @@ abbrev pub passed : Member → ℕ → End → End → Passed
 passed m stress start end =
     let losses = lossesBetween m stress start end in
     passing losses (after stress (together losses))
-
--- what the arithmetic asks of an interval's end
-pub record EndBounded (end : End) : Type 0 where
-  pub creep-fits : end .creep ≤ T
-  pub shrinkage-fits : end .shrinkage ≤ T
-  pub logarithm-fits : end .logarithm ≤ 1536

@@ -1,11 +1,9 @@
 // The losses before the ages, and the stress that each leaves.
 ghost use mathlib.Core.Path.{_≡_};
-ghost use Prim.Native.Nat.{_^_, _<_};
 ghost use Rattle.stages.specs.Stresses.{after as afterLoss};
-ghost use Rattle.stages.specs.Bounds.{Bounded};
+ghost use Rattle.stages.specs.Bounds.{BeginFits, LossFits};
 ghost use Rattle.stages.specs.BeforeAges.{earlyRelaxationOf, shorteningOf, begunOf};
 ghost use Rattle.stages.specs.Parts.{afterThree};
-ghost use Rattle.stages.specs.Intervals.{transferEnd};
 use crate::BeforeAges;
 use crate::Begun;
 use crate::Stress;
@@ -45,7 +43,7 @@ fn after_three(stress: u64, first: u64, second: u64, third: u64) -> Stress
 
 // The relaxation of a pretensioned member before transfer, from hour 1, whose logarithm is 0.
 fn early_relaxation(m: Member, transfer: End, stress: u64) -> u64
-    requires { ⌜ (Bounded m) × (transfer ≡ transferEnd m) × (stress < 2 ^ 28) ⌝ }
+    requires { ⌜ LossFits m transfer stress ⌝ }
     ensures { λ r. ⌜ r ≡ earlyRelaxationOf m stress ⌝ }
 {
     let hours = m.hours;
@@ -60,7 +58,7 @@ fn early_relaxation(m: Member, transfer: End, stress: u64) -> u64
 }
 
 fn shortening(m: Member, transfer: End, stress: u64) -> u64
-    requires { ⌜ (Bounded m) × (transfer ≡ transferEnd m) × (stress < 2 ^ 28) ⌝ }
+    requires { ⌜ LossFits m transfer stress ⌝ }
     ensures { λ r. ⌜ r ≡ shorteningOf m stress ⌝ }
 {
     let c = steps::concrete_stress(stress, m.kappa, transfer.g);
@@ -69,7 +67,7 @@ fn shortening(m: Member, transfer: End, stress: u64) -> u64
 
 // The losses before the ages. The stress is looked at after each.
 pub fn begin(m: Member, transfer: End) -> Begun
-    requires { ⌜ (Bounded m) × (transfer ≡ transferEnd m) ⌝ }
+    requires { ⌜ BeginFits m transfer ⌝ }
     ensures { λ r. ⌜ r ≡ begunOf m ⌝ }
 {
     let jacked = m.jacking_stress * TICKS_PER_UNIT;

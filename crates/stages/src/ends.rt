@@ -1,8 +1,6 @@
 // The ends of the intervals, read once each: one interval's end is the next one's start.
 ghost use mathlib.Core.Path.{_≡_};
-ghost use Prim.Native.Nat.{_^_, _≤_};
-ghost use Rattle.logarithm.specs.Logarithm.{IsTable};
-ghost use Rattle.stages.specs.Bounds.{Bounded};
+ghost use Rattle.stages.specs.Bounds.{EndFits};
 ghost use Rattle.stages.specs.Intervals.{endAt};
 use coefficient::clocks::SERVICE_LIFE;
 use logarithm::ENTRIES;
@@ -19,7 +17,7 @@ pub struct End {
 }
 
 pub fn end_at(m: Member, thresholds: &[u32; ENTRIES], moments: u64, hour: u32) -> End
-    requires { ⌜ (Bounded m) × (IsTable (now thresholds)) × (moments ≤ 2 ^ 40) ⌝ }
+    requires { ⌜ EndFits m (now thresholds) moments ⌝ }
     ensures { λ r. ⌜ r ≡ endAt m moments hour ⌝ }
 {
     let hours = m.hours;

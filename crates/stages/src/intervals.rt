@@ -1,8 +1,7 @@
 // The losses of an interval, from its two ends.
 ghost use mathlib.Core.Path.{_≡_};
-ghost use Prim.Native.Nat.{_^_, _<_};
-ghost use Rattle.stages.specs.Bounds.{Bounded};
-ghost use Rattle.stages.specs.Intervals.{lossesBetween, passed, EndBounded};
+ghost use Rattle.stages.specs.Bounds.{PassFits};
+ghost use Rattle.stages.specs.Intervals.{lossesBetween, passed};
 use crate::Stress;
 use crate::before;
 use crate::ends::End;
@@ -22,7 +21,7 @@ pub enum Passed {
 
 // The losses of an interval, from the stress at its start and from its two ends.
 fn losses_between(m: Member, stress: u64, start: End, end: End) -> Losses
-    requires { ⌜ (Bounded m) × (stress < 2 ^ 28) × (EndBounded end) ⌝ }
+    requires { ⌜ PassFits m stress end ⌝ }
     ensures { λ r. ⌜ r ≡ lossesBetween m stress start end ⌝ }
 {
     let steel = m.steel;
@@ -42,7 +41,7 @@ fn losses_between(m: Member, stress: u64, start: End, end: End) -> Losses
 
 // All three losses leave the stress together.
 pub fn pass(m: Member, stress: u64, start: End, end: End) -> Passed
-    requires { ⌜ (Bounded m) × (stress < 2 ^ 28) × (EndBounded end) ⌝ }
+    requires { ⌜ PassFits m stress end ⌝ }
     ensures { λ r. ⌜ r ≡ passed m stress start end ⌝ }
 {
     let losses = losses_between(m, stress, start, end);

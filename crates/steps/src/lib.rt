@@ -1,9 +1,10 @@
-// The losses of each step, in ticks. Every division rounds down. What a function requires are the powers of two above document 01's
-// ranges, so that its products fit.
+// The losses of each step, in ticks. Every division rounds down. What a function requires is that its products fit.
 ghost use mathlib.Core.Path.{_≡_};
-ghost use Prim.Native.Nat.{_-_, _^_, _≤_, _<_};
+ghost use Prim.Native.Nat.{_-_, _≤_, _<_};
 ghost use Rattle.steps.specs.Steps.{frictionLoss, slipLoss, deflectorTicks, yield, relaxationDivisor, relaxationFactor};
 ghost use Rattle.steps.specs.Steps.{relaxationLoss, momentStress, concreteStress, shorteningLoss, creepLoss, shrinkageLoss};
+ghost use Rattle.steps.specs.Bounds.{stressLimit, strengthLimit, FrictionFits, SlipFits, DeflectorFits, RelaxationFits};
+ghost use Rattle.steps.specs.Bounds.{MomentsFit, ConcreteFits, ShorteningFits, CreepFits, ShrinkageFits};
 use coefficient::codes::Steel;
 use tables::T;
 use ticks::TICKS_PER_UNIT;
@@ -38,29 +39,28 @@ pub fn difference(later: u64, earlier: u64) -> u64
 }
 
 pub fn friction_loss(stress: u64, friction: u64) -> u64
-    requires { ⌜ (stress < 2 ^ 28) × (friction < 2 ^ 23) ⌝ }
+    requires { ⌜ FrictionFits stress friction ⌝ }
     ensures { λ r. ⌜ r ≡ frictionLoss stress friction ⌝ }
 {
     stress * friction / T
 }
 
 pub fn slip_loss(es: u64, slip: u64, length: u64) -> u64
-    requires { ⌜ (es < 2 ^ 25) × (slip < 2 ^ 12) ⌝ }
-    requires { ⌜ (1 ≤ length) × (length < 2 ^ 22) ⌝ }
+    requires { ⌜ SlipFits es slip length ⌝ }
     ensures { λ r. ⌜ r ≡ slipLoss es slip length ⌝ }
 {
     es * slip * TICKS_PER_UNIT / (INCHES_TO_A_FOOT * length)
 }
 
 pub fn deflector_ticks(deflector_loss: u64) -> u64
-    requires { ⌜ «deflector_loss» < 2 ^ 15 ⌝ }
+    requires { ⌜ DeflectorFits «deflector_loss» ⌝ }
     ensures { λ r. ⌜ r ≡ deflectorTicks «deflector_loss» ⌝ }
 {
     deflector_loss * TICKS_PER_UNIT
 }
 
 fn yield_of(steel: Steel, ultimate_strength: u64) -> u64
-    requires { ⌜ «ultimate_strength» < 2 ^ 19 ⌝ }
+    requires { ⌜ «ultimate_strength» < strengthLimit ⌝ }
     ensures { λ r. ⌜ r ≡ yield steel «ultimate_strength» ⌝ }
 {
     match steel {
@@ -81,7 +81,7 @@ fn relaxation_divisor(steel: Steel) -> u64
 }
 
 fn relaxation_factor(stress: u64, y: u64) -> u64
-    requires { ⌜ (stress < 2 ^ 28) × (1 ≤ y) ⌝ }
+    requires { ⌜ (stress < stressLimit) × (1 ≤ y) ⌝ }
     ensures { λ r. ⌜ r ≡ relaxationFactor stress y ⌝ }
 {
     let above = difference(stress * T / y, FREE_OF_RELAXATION);
@@ -93,8 +93,7 @@ fn relaxation_factor(stress: u64, y: u64) -> u64
 }
 
 pub fn relaxation_loss(steel: Steel, ultimate_strength: u64, stress: u64, logarithms: u64) -> u64
-    requires { ⌜ (100000 ≤ «ultimate_strength») × («ultimate_strength» < 2 ^ 19) ⌝ }
-    requires { ⌜ (stress < 2 ^ 28) × (logarithms ≤ 1536) ⌝ }
+    requires { ⌜ RelaxationFits «ultimate_strength» stress logarithms ⌝ }
     ensures { λ r. ⌜ r ≡ relaxationLoss steel «ultimate_strength» stress logarithms ⌝ }
 {
     let y = yield_of(steel, ultimate_strength);
@@ -103,36 +102,35 @@ pub fn relaxation_loss(steel: Steel, ultimate_strength: u64, stress: u64, logari
 }
 
 pub fn moment_stress(moments: u64, eccentricity: u64, inertia: u64) -> u64
-    requires { ⌜ (moments ≤ 2 ^ 40) × (eccentricity < 2 ^ 17) × (1 ≤ inertia) ⌝ }
+    requires { ⌜ MomentsFit moments eccentricity inertia ⌝ }
     ensures { λ r. ⌜ r ≡ momentStress moments eccentricity inertia ⌝ }
 {
     moments * eccentricity / inertia
 }
 
 pub fn concrete_stress(stress: u64, kappa: u64, g: u64) -> u64
-    requires { ⌜ (stress < 2 ^ 28) × (kappa ≤ 2 ^ 30) ⌝ }
+    requires { ⌜ ConcreteFits stress kappa ⌝ }
     ensures { λ r. ⌜ r ≡ concreteStress stress kappa g ⌝ }
 {
     difference(stress * kappa / KAPPA_UNIT, g)
 }
 
 pub fn shortening_loss(es: u64, eci: u64, kappa: u64, c: u64) -> u64
-    requires { ⌜ (es < 2 ^ 25) × (1 ≤ eci) × (eci < 2 ^ 23) ⌝ }
-    requires { ⌜ (kappa ≤ 2 ^ 30) × (c < 2 ^ 28) ⌝ }
+    requires { ⌜ ShorteningFits es eci kappa c ⌝ }
     ensures { λ r. ⌜ r ≡ shorteningLoss es eci kappa c ⌝ }
 {
     es * c / (eci + es * kappa / KAPPA_UNIT)
 }
 
 pub fn creep_loss(whole_creep: u64, share: u64, c: u64) -> u64
-    requires { ⌜ («whole_creep» < 2 ^ 31) × (share ≤ 2 ^ 24) × (c < 2 ^ 28) ⌝ }
+    requires { ⌜ CreepFits «whole_creep» share c ⌝ }
     ensures { λ r. ⌜ r ≡ creepLoss «whole_creep» share c ⌝ }
 {
     whole_creep * share / T * c / T
 }
 
 pub fn shrinkage_loss(whole_shrinkage: u64, share: u64) -> u64
-    requires { ⌜ («whole_shrinkage» < 2 ^ 26) × (share ≤ 2 ^ 24) ⌝ }
+    requires { ⌜ ShrinkageFits «whole_shrinkage» share ⌝ }
     ensures { λ r. ⌜ r ≡ shrinkageLoss «whole_shrinkage» share ⌝ }
 {
     whole_shrinkage * share / T

@@ -20,13 +20,13 @@ array-share-prefix-of-segments c = search needs
 slice-aggregate-read-lines : tie.Need-slice-aggregate-read-lines
 slice-aggregate-read-lines c =
     let start = c .before .before .before in
-    sym (length-take-le (start .args .segments) (replicate mostSegments perSegment) (start .pre .0))
+    sym (length-take-le (start .args .segments) (replicate mostSegments perSegment) (start .pre .segments-most))
 
 read-lines-requires : tie.Need-read-lines-requires
 read-lines-requires c κs =
     let start = c .before .before .before .before in
-    let count = fields-taken (start .args .segments) mostSegments perSegment (start .pre .0) in
-    (omega arith, search needs)
+    let count = fields-taken (start .args .segments) mostSegments perSegment (start .pre .segments-most) in
+    search needs
 
 same-length : tie.Need-same-length
 same-length c = search needs
@@ -40,8 +40,7 @@ buffer c = c .read-lines .last .1 .1 .1 .1 .0
 segments-read : (c : tie.After-read-lines)
     → SegmentsRead (now (start c .args .part)) (now (start c .args .fields)) (start c .args .segments) (start c .args .ages)
     (c .read-lines .result) (buffer c)
-segments-read c =
-    record { few = start c .pre .0; few-ages = start c .pre .1 .0; room = start c .pre .1 .1; read = c .read-lines .ensures }
+segments-read c = record { fits = start c .pre; read = c .read-lines .ensures }
 
 -- the place where the lines of segments were read, before that where the lines of ages were
 abbrev segments-place : tie.After-read-lines2 → tie.After-read-lines
@@ -89,7 +88,7 @@ array-share-prefix-of-ages c = search needs
 slice-aggregate-read-lines-2 : tie.Need-slice-aggregate-read-lines-2
 slice-aggregate-read-lines-2 c =
     let start = c .before .before .before .before .before .before .before .before .before .before in
-    sym (length-take-le (start .args .ages) (replicate mostAges perAge) (start .pre .1 .0))
+    sym (length-take-le (start .args .ages) (replicate mostAges perAge) (start .pre .ages-most))
 
 add-read-lines : tie.Need-add-read-lines
 add-read-lines c = search needs
@@ -110,9 +109,14 @@ read-lines-requires-2 : tie.Need-read-lines-requires-2
 read-lines-requires-2 c κs =
     let lines = c .before .before .before .before .before .before in
     let segments = start lines .args .segments in
-    let count = fields-taken (start lines .args .ages) mostAges perAge (start lines .pre .1 .0) in
+    let count = fields-taken (start lines .args .ages) mostAges perAge (start lines .pre .ages-most) in
     let same = buffer-long (segments-read lines) (c .before .before .before .if1 .left) in
-    (rw (tail (buffer lines) (perSegment * segments)) (simp length-drop (omega arith)), omega arith)
+    record {
+      room = rw (tail (buffer lines) (perSegment * segments)) (simp length-drop (omega arith));
+      some-line = omega arith;
+      line-most = omega arith;
+      field-most = omega arith;
+    }
 
 same-length-2 : tie.Need-same-length-2
 same-length-2 c = search needs

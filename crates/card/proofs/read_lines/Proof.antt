@@ -22,7 +22,7 @@ loop-holds : tie.Need-loop-holds Inv-loop μ-loop
 loop-holds c =
     let start = c .before .before .before in
     no-lines (now (start .args .part)) (now (start .args .counts)) (start .args .line) (start .args .field)
-    (now (start .args .fields)) (start .pre .1 .0 .0) (start .pre .0)
+    (now (start .args .fields)) (start .pre .some-line) (start .pre .room)
 
 mul-count : tie.Need-mul-count Inv-loop μ-loop
 mul-count c = search needs
@@ -59,7 +59,7 @@ read-line-requires c κs =
     let loop = c .before .before .before .before .loop in
     let room = fits (loop .inv) (c .before .before .before .loop-test .taken) in
     let same = loop .inv .same in
-    (rw (tail (loop .fields) (loop .read)) (simp length-drop (omega arith)), omega arith)
+    record { room = rw (tail (loop .fields) (loop .read)) (simp length-drop (omega arith)); numbered = omega arith }
 
 add-result : tie.Need-add-result Inv-loop μ-loop
 add-result c = search needs

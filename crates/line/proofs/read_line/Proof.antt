@@ -35,7 +35,7 @@ loop-holds : tie.Need-loop-holds Inv-loop μ-loop
 loop-holds c =
     let start = c .before .before .before .before .before in
     begins (now (start .args .part)) (start .args .count) (start .args .field) (now (start .args .fields))
-    (start .pre .0) (c .before .before .if1 .left) (c .if2 .left)
+    (start .pre .room) (c .before .before .if1 .left) (c .if2 .left)
 
 add-amount-of : tie.Need-add-amount-of Inv-loop μ-loop
 add-amount-of c = search needs

@@ -55,9 +55,9 @@ returns c =
       c .shrinkage-of .ensures,
       read .steel-of .ensures,
       read .before .before .hours-of .ensures,
-      start .pre .1 .0,
-      start .pre .1 .1,
-      start .pre .1 .2,
+      start .pre .1 .friction-is,
+      start .pre .1 .kappa-is,
+      start .pre .1 .creep-is,
     )
 
 pub member-of-spec : {M : Type 1} → statement M

@@ -21,7 +21,7 @@ slice-aggregate-read-doubles c =
 read-doubles-requires : tie.Need-read-doubles-requires
 read-doubles-requires c κs =
     let start = c .before .before .before .before in
-    bytes-enough (now (start .args .list)) _ _ (c .before .room-up-to .ensures) (start .pre)
+    record { room = bytes-enough (now (start .args .list)) _ _ (c .before .room-up-to .ensures) (start .pre) }
 
 slice-reshare-prefix-read-list : tie.Need-slice-reshare-prefix-read-list
 slice-reshare-prefix-read-list c = search needs

@@ -47,14 +47,14 @@ loop-less c = search needs
 loop-again : tie.Need-loop-again Inv-loop μ-loop
 loop-again c =
     let turn = c .before .before .before .before .before .before in
-    stored-more _ _ _ _ (turn .before .before .before .pre) (turn .loop .inv) _ (omega arith)
+    stored-more _ _ _ _ (turn .before .before .before .pre .room) (turn .loop .inv) _ (omega arith)
     (c .before .before .write-number .ensures)
 
 same-length : tie.Need-same-length Inv-loop μ-loop
 same-length c = c .before .loop .inv .same
 
 returns : tie.Need-returns Inv-loop μ-loop
-returns c = stored-all _ _ _ _ (c .before .before .before .before .pre) (c .before .loop .inv) (c .loop-test .left)
+returns c = stored-all _ _ _ _ (c .before .before .before .before .pre .room) (c .before .loop .inv) (c .loop-test .left)
 
 pub write-numbers-spec : {M : Type 1} → statement M
 write-numbers-spec =

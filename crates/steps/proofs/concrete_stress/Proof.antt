@@ -6,7 +6,7 @@ use Rattle.steps.proofs.concrete_stress.Statement.{statement}
 use Rattle.steps.proofs.concrete_stress.Tie as tie
 
 mul-difference : tie.Need-mul-difference
-mul-difference c = omega (arith, product 28 30 {a = c .args .stress} {b = c .args .kappa} (omega arith) (omega arith))
+mul-difference c = omega (arith, product 28 31 {a = c .args .stress} {b = c .args .kappa} (omega arith) (omega arith))
 
 difference-requires : tie.Need-difference-requires
 difference-requires c κs = search needs

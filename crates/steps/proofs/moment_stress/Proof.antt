@@ -6,7 +6,7 @@ use Rattle.steps.proofs.moment_stress.Statement.{statement}
 use Rattle.steps.proofs.moment_stress.Tie as tie
 
 mul-result : tie.Need-mul-result
-mul-result c = omega (arith, product 40 17 {a = c .args .moments} {b = c .args .eccentricity} (omega arith) (omega arith))
+mul-result c = omega (arith, product 41 17 {a = c .args .moments} {b = c .args .eccentricity} (omega arith) (omega arith))
 
 div-result : tie.Need-div-result
 div-result c = search needs

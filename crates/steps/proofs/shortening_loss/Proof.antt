@@ -9,10 +9,10 @@ mul-result : tie.Need-mul-result
 mul-result c = omega (arith, product 25 28 {a = c .args .es} {b = c .args .c} (omega arith) (omega arith))
 
 mul-result-2 : tie.Need-mul-result-2
-mul-result-2 c = omega (arith, product 25 30 {a = c .args .es} {b = c .args .kappa} (omega arith) (omega arith))
+mul-result-2 c = omega (arith, product 25 31 {a = c .args .es} {b = c .args .kappa} (omega arith) (omega arith))
 
 add-result : tie.Need-add-result
-add-result c = omega (arith, product 25 30 {a = c .args .es} {b = c .args .kappa} (omega arith) (omega arith))
+add-result c = omega (arith, product 25 31 {a = c .args .es} {b = c .args .kappa} (omega arith) (omega arith))
 
 div-result : tie.Need-div-result
 div-result c = search needs

@@ -67,13 +67,17 @@ add-moments-2 c = omega (arith, moments-most c)
 end-at-requires : tie.Need-end-at-requires Inv-loop μ-loop
 end-at-requires c κs =
     let start = c .before .before .before .before .before .before in
-    (start .pre .member-bounded, start .pre .thresholds-are, moments-most c)
+    record { member = start .pre .member-bounded; table = start .pre .thresholds-are; moments-fit = moments-most c }
 
 pass-requires : tie.Need-pass-requires Inv-loop μ-loop
 pass-requires c κs =
     let loop = c .before .before .before .before .before in
     let start = loop .before .before in
-    (start .pre .member-bounded, loop .loop .inv .stress-fits, rw (c .end-at .ensures) (end-bounded (start .args .m) _ _))
+    record {
+      member = start .pre .member-bounded;
+      stress-fits = loop .loop .inv .stress-fits;
+      end-fits = rw (c .end-at .ensures) (end-bounded (start .args .m) _ _);
+    }
 
 -- the turn of the loop in which an interval is passed
 abbrev turn : tie.After-pass Inv-loop μ-loop → tie.In-loop Inv-loop μ-loop

@@ -74,8 +74,8 @@ returns c = fails-deflected _ (sym (three-is (c .before .before)) ∙ c .enum-to
 
 early-relaxation-requires : tie.Need-early-relaxation-requires
 early-relaxation-requires c κs =
-    let pre = start c .pre in
-    (pre .0, pre .1, deflected-fits _ _ (pre .0) (deflected-is c))
+    let begin = start c .pre in
+    record { begin = begin; stress-fits = deflected-fits _ _ (begin .member) (deflected-is c) }
 
 after-requires : tie.Need-after-requires
 after-requires c κs = search needs
@@ -94,8 +94,11 @@ returns-2 c =
 shortening-requires : tie.Need-shortening-requires
 shortening-requires c κs =
     let deflected = c .before .before .before .before .before in
-    let pre = start deflected .pre in
-    (pre .0, pre .1, left-fits _ _ _ (deflected-fits _ _ (pre .0) (deflected-is deflected)) (relaxed-is c))
+    let begin = start deflected .pre in
+    record {
+      begin = begin;
+      stress-fits = left-fits _ _ _ (deflected-fits _ _ (begin .member) (deflected-is deflected)) (relaxed-is c);
+    }
 
 after-requires-2 : tie.Need-after-requires-2
 after-requires-2 c κs = search needs

@@ -16,7 +16,7 @@ relaxation-loss-requires : tie.Need-relaxation-loss-requires
 relaxation-loss-requires c κs =
     let start = c .before .before .before in
     let hours = start .args .m .hours in
-    omega (arith, ap (λ (end : End). end .logarithm) (start .pre .1), logarithm-most (sinceTensioning hours (hours .transfer) .0))
+    omega (arith, ap (λ (end : End). end .logarithm) (start .pre .begin .at-transfer), logarithm-most (sinceTensioning hours (hours .transfer) .0))
 
 enum-told-2 : tie.Need-enum-told-2
 enum-told-2 c = search needs
@@ -25,7 +25,7 @@ returns : tie.Need-returns
 returns c =
     let start = c .before .before .before .before in
     relaxes-early (start .args .m) (start .args .stress) _ _ (c .before .enum-told .given .1)
-    (ap (λ (end : End). end .logarithm) (start .pre .1)) (c .relaxation-loss .ensures)
+    (ap (λ (end : End). end .logarithm) (start .pre .begin .at-transfer)) (c .relaxation-loss .ensures)
 
 returns-2 : tie.Need-returns-2
 returns-2 c =

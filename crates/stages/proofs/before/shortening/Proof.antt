@@ -6,6 +6,7 @@ use Rattle.stages.proofs.before.shortening.Statement.{statement}
 use Rattle.stages.proofs.before.shortening.Tie as tie
 use Rattle.stages.specs.declared.ends.End.{End}
 use Rattle.steps.proofs.Laws.{concrete-most}
+use Rattle.steps.specs.Bounds.{ConcreteFits}
 
 concrete-stress-requires : tie.Need-concrete-stress-requires
 concrete-stress-requires c κs = search needs
@@ -13,16 +14,13 @@ concrete-stress-requires c κs = search needs
 shortening-loss-requires : tie.Need-shortening-loss-requires
 shortening-loss-requires c κs =
     let args = c .before .args in
-    omega (
-      arith,
-      c .concrete-stress .ensures,
-      concrete-most (args .stress) (args .m .kappa) (args .transfer .g) (omega arith) (omega arith),
-    )
+    let asked : ConcreteFits (args .stress) (args .m .kappa) = search needs in
+    omega (arith, c .concrete-stress .ensures, concrete-most (args .transfer .g) asked)
 
 returns : tie.Need-returns
 returns c =
     let start = c .before .before in
-    rw (c .before .concrete-stress .ensures, ap (λ (end : End). end .g) (start .pre .1)) at (c .shortening-loss .ensures)
+    rw (c .before .concrete-stress .ensures, ap (λ (end : End). end .g) (start .pre .begin .at-transfer)) at (c .shortening-loss .ensures)
 
 pub shortening-spec : {M : Type 1} → statement M
 shortening-spec = tie.close (tie.spec concrete-stress-requires shortening-loss-requires returns)

@@ -2,9 +2,9 @@
 -- its bounds. Assumes nothing.
 use borrow.Author.Needs.{needs}
 use native.Mathlib.Omega.{arith}
+use Rattle.stages.proofs.Passing.{creep}
 use Rattle.stages.proofs.intervals.losses_between.Statement.{statement}
 use Rattle.stages.proofs.intervals.losses_between.Tie as tie
-use Rattle.steps.proofs.Laws.{concrete-most}
 
 concrete-stress-requires : tie.Need-concrete-stress-requires
 concrete-stress-requires c κs = search needs
@@ -20,12 +20,10 @@ difference-requires-3 c κs = search needs
 
 creep-loss-requires : tie.Need-creep-loss-requires
 creep-loss-requires c κs =
-    let start = c .before .before .before .before in
-    let bounds = start .pre in (
-      bounds .0 .creep-fits,
-      omega (arith, c .before .before .difference .ensures, bounds .2 .creep-fits),
-      rw (c .before .before .before .concrete-stress .ensures) (concrete-most _ _ _ (bounds .1) (bounds .0 .kappa-fits)),
-    )
+    let shared = c .before .before in
+    let start = shared .before .before in
+    rw (shared .difference .ensures, shared .before .concrete-stress .ensures)
+    (creep (start .args .m) (start .args .stress) (start .args .start) (start .args .end) (start .pre))
 
 shrinkage-loss-requires : tie.Need-shrinkage-loss-requires
 shrinkage-loss-requires c κs = search needs

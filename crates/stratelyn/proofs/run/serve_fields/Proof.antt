@@ -71,7 +71,9 @@ slice-aggregate-write-numbers c = sym (length-take-le _ _ (count-within (c .befo
 write-numbers-requires : tie.Need-write-numbers-requires
 write-numbers-requires c κs =
     let told = c .before .before in
-    rw (length-take-le _ (rows (told .before .before .before .before)) (count-within told)) (run-room _ _ _ _ _ (rowed told))
+    record {
+      room = rw (length-take-le _ (rows (told .before .before .before .before)) (count-within told)) (run-room _ _ _ _ _ (rowed told));
+    }
 
 accept-requires : tie.Need-accept-requires
 accept-requires c κs =
