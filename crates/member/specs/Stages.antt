@@ -1,5 +1,5 @@
--- The last rows of `checkedOf`, from the duct on and from the section on, by themselves; and what the code has computed of the fields when
--- they are passed. It serves the code alone. Assumes nothing.
+-- The last rows of `checkedOf`, from the duct on and from the section on, by themselves; and what the code has computed of the fields
+-- when they are passed. They serve the code alone. Assumes nothing.
 use Prim.Native.Nat.{ℕ, _*_}
 use mathlib.Core.Path.{_≡_}
 use mathlib.Core.Bool.{cond}

@@ -24,7 +24,7 @@ module _ (m : Member) (stress : ℕ) (start end : End) where
   concrete : PassFits m stress end → ConcreteFits stress (m .kappa)
   concrete fits = record { stress-fits = fits .stress-fits; kappa-fits = omega arith }
 
-  pub creep : PassFits m stress end → CreepFits (m .creep) (end .creep - start .creep) (concreteStress stress (m .kappa) (start .g))
+  creep : PassFits m stress end → CreepFits (m .creep) (end .creep - start .creep) (concreteStress stress (m .kappa) (start .g))
   creep fits = record {
     creep-fits = fits .member .creep-fits;
     share-fits = omega arith;

@@ -1,5 +1,5 @@
--- What the code's arithmetic asks of a member, of its ages and of the ends of its intervals, so that no product wraps. It serves the code
--- alone, and every accepted member has it. Assumes nothing.
+-- What the code's arithmetic asks of a member, of its ages and of the ends of its intervals, so that no product wraps. It serves the
+-- code alone, and every accepted member has it. Assumes nothing.
 use Prim.Native.Nat.{ℕ, _+_, _≤_, _<_}
 use mathlib.Core.Path.{_≡_}
 use mathlib.Core.List.{List, [], _∷_}

@@ -1,5 +1,5 @@
--- What the code's arithmetic asks of the numbers of each step, so that no product wraps: the powers of two above document 01's ranges.
--- It serves the code alone, and every accepted member has it. Assumes nothing.
+-- What the code's arithmetic asks of the numbers of each step, so that no product wraps: the powers of two above document 01's
+-- ranges. It serves the code alone, and every accepted member has it. Assumes nothing.
 use Prim.Native.Nat.{ℕ, _^_, _≤_, _<_}
 use Rattle.tables.specs.Tables.{T}
 

@@ -29,7 +29,7 @@ use Rattle.tolerance.proofs.Path.{friction-falls}
 use Rattle.tolerance.proofs.Bounds.{known, low}
 use Rattle.tolerance.proofs.Allowance.{Allowance, narrow-allowance, wide-allowance}
 use Rattle.tolerance.proofs.Chains.{Chain, one-step, chain-at, chain-lengths, chain-each, falls-each, each-length-then, each-then}
-use Rattle.tolerance.proofs.Run.{Began, AgesRun, run, ages-fall, ages-close-up, ages-end, rows-length}
+use Rattle.tolerance.proofs.Run.{Began, AgesRun, run, ages-fall, ages-close-up, ages-end, rows-count, rows-length}
 use Rattle.tolerance.proofs.Beginning.{path-length, jacked-is, friction-is, friction-leaves}
 use Rattle.tolerance.proofs.Beginning.{along-path, after-slip, after-deflector, after-early, after-shortening}
 use Rattle.tolerance.proofs.Ages.{ages-chain}
@@ -129,6 +129,7 @@ module _ {segments ages report scratch : ℕ} {fields : List ℕ} (facts : Facts
     path = λ j h. omega (arith, friction-leaves facts began j);
     path-end = omega (arith, end-of-path, jacked-is facts began);
     reply = omega (arith, jacked-is facts began);
+    rows-count = omega (arith, rows-count aged, list-length);
     report = reported-last;
   }
 

@@ -5,7 +5,7 @@
 use mathlib.Core.Path.{_≡_, refl, ap, subst, subst₃}
 use mathlib.Core.Bool.{Bool, true, false, cond}
 use mathlib.Core.List.{List, [], _∷_, _++_}
-use Prim.Native.Nat.{ℕ, zero, suc, _+_, _-_, _≤_}
+use Prim.Native.Nat.{ℕ, zero, suc, _+_, _-_, _*_, _≤_}
 use native.Mathlib.Omega.{arith}
 use lib.Dec.{leb}
 use lib.ListN.{length, getD, drop}
@@ -160,6 +160,11 @@ pub ages-end : {m : Member} {start : Start} {ages : List Age} {rows : List ℕ} 
 unfolding stressesOfRows
 ages-end no-age = refl
 ages-end (an-age fits run) = ages-end run
+
+pub rows-count : {m : Member} {start : Start} {ages : List Age} {rows : List ℕ} {last : ℕ} → AgesRun m start ages rows last
+    → length rows ≡ perRow * length ages
+rows-count no-age = refl
+rows-count (an-age fits run) = omega (arith, rows-count run)
 
 pub rows-length : (ages : ℕ) (rows : List ℕ) → length (stressesOfRows ages rows) ≡ ages
 unfolding stressesOfRows

@@ -48,12 +48,13 @@ unfoldable pub lossesOfRows : ℕ → List ℕ → ℕ
 lossesOfRows zero rows = 0
 lossesOfRows (suc ages) rows = getD rows 0 0 + getD rows 1 0 + getD rows 2 0 + lossesOfRows ages (drop perRow rows)
 
--- "the core's after a step is the one these lines give in ticks, and where reply or report has it, the number there". What `coreStresses`
--- takes off is there, as these sums say, so none of its differences is cut at 0.
+-- "the core's after a step is the one these lines give in ticks, and where reply or report has it, the number there". By the sums none
+-- of the differences in `coreStresses` is cut at 0, and by the count every number that it reads is in the report.
 pub record Linked (segments ages : ℕ) (fields : List ℕ) (before : BeforeAges) (rows : List ℕ) (last : ℕ) : Type 0 where
   pub path : (j : ℕ) → j ≤ segments → coreAfterSegments segments fields j + coreFriction segments fields j ≡ jacked fields
   pub path-end : coreAfterSegments segments fields segments + before .friction ≡ jacked fields
   pub reply : before .stress + lossesBefore before ≡ jacked fields
+  pub rows-count : length rows ≡ perRow * ages
   pub report : getD (coreStresses segments ages fields before rows) (segments + ages + 2) 0 ≡ last
 
 -- "Demand 3 is one claim over the whole run"

@@ -16,7 +16,11 @@ relaxation-loss-requires : tie.Need-relaxation-loss-requires
 relaxation-loss-requires c κs =
     let start = c .before .before .before in
     let hours = start .args .m .hours in
-    omega (arith, ap (λ (end : End). end .logarithm) (start .pre .begin .at-transfer), logarithm-most (sinceTensioning hours (hours .transfer) .0))
+    omega (
+      arith,
+      ap (λ (end : End). end .logarithm) (start .pre .begin .at-transfer),
+      logarithm-most (sinceTensioning hours (hours .transfer) .0),
+    )
 
 enum-told-2 : tie.Need-enum-told-2
 enum-told-2 c = search needs

@@ -19,8 +19,8 @@ shortening-loss-requires c κs =
 
 returns : tie.Need-returns
 returns c =
-    let start = c .before .before in
-    rw (c .before .concrete-stress .ensures, ap (λ (end : End). end .g) (start .pre .begin .at-transfer)) at (c .shortening-loss .ensures)
+    let at-transfer = c .before .before .pre .begin .at-transfer in
+    rw (c .before .concrete-stress .ensures, ap (λ (end : End). end .g) at-transfer) at (c .shortening-loss .ensures)
 
 pub shortening-spec : {M : Type 1} → statement M
 shortening-spec = tie.close (tie.spec concrete-stress-requires shortening-loss-requires returns)

@@ -1,10 +1,11 @@
 -- Each share and the logarithms are differences of the interval's ends, no more than what stands at the later, so that every loss has
 -- its bounds. Assumes nothing.
 use borrow.Author.Needs.{needs}
-use native.Mathlib.Omega.{arith}
-use Rattle.stages.proofs.Passing.{creep}
+use Prim.Native.Nat.{_<_}
 use Rattle.stages.proofs.intervals.losses_between.Statement.{statement}
 use Rattle.stages.proofs.intervals.losses_between.Tie as tie
+use Rattle.steps.proofs.Laws.{concrete-most}
+use Rattle.steps.specs.Bounds.{stressLimit, ConcreteFits}
 
 concrete-stress-requires : tie.Need-concrete-stress-requires
 concrete-stress-requires c κs = search needs
@@ -20,10 +21,11 @@ difference-requires-3 c κs = search needs
 
 creep-loss-requires : tie.Need-creep-loss-requires
 creep-loss-requires c κs =
-    let shared = c .before .before in
-    let start = shared .before .before in
-    rw (shared .difference .ensures, shared .before .concrete-stress .ensures)
-    (creep (start .args .m) (start .args .stress) (start .args .start) (start .args .end) (start .pre))
+    let stressed = c .before .before .before in
+    let args = stressed .before .args in
+    let asked : ConcreteFits (args .stress) (args .m .kappa) = search needs in
+    let fits : stressed .concrete-stress .result < stressLimit = rw (stressed .concrete-stress .ensures) (concrete-most _ asked) in
+    search needs
 
 shrinkage-loss-requires : tie.Need-shrinkage-loss-requires
 shrinkage-loss-requires c κs = search needs
