@@ -19,7 +19,7 @@ use Rattle.fields.specs.Amounts.{over, Outcome, refused, accepted}
 use Rattle.line.specs.Line.{lineLength}
 use Rattle.card.specs.Card.{Lines, readLines, fieldsOn, bytesOn, headLines, head, firstSegmentLine, lineBehind}
 use Rattle.card.specs.Card.{announcedOf, segmentsIn, agesIn, announced, firstWrong, cardOutcome}
-use Rattle.card.specs.Bounds.{AnnouncedFit}
+use Rattle.card.specs.Conditions.{AnnouncedFit}
 use Rattle.fields.proofs.Buffers.{length-over, tail, written-behind}
 use Rattle.card.proofs.Lines.{Right, lines-right}
 use Rattle.card.proofs.Lines.{andThen, readLines-append, readLines-stops, LinesRead}

@@ -5,7 +5,7 @@ ghost use lib.ListN.{length};
 ghost use Rattle.fields.specs.Layout.{mostFields};
 ghost use Rattle.fields.specs.Amounts.{over};
 ghost use Rattle.card.specs.Card.{readLines, announcedOf, lineBehind, firstWrong, cardOutcome};
-ghost use Rattle.card.specs.Bounds.{LinesFit, AnnouncedFit};
+ghost use Rattle.card.specs.Conditions.{LinesFit, AnnouncedFit};
 use fields::layout::AGES;
 use fields::layout::HEAD_FIELDS;
 use fields::layout::LEAST_AGES;

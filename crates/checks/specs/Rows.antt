@@ -4,7 +4,7 @@ use Prim.Native.Nat.{ℕ, _+_, _*_, _^_}
 use mathlib.Core.Bool.{Bool, _&&_, _||_, not, cond}
 use mathlib.Core.List.{List, [], _∷_, _++_}
 use lib.Dec.{leb, ltb, eqb}
-use Rattle.fields.specs.Layout.{firstSegmentField, firstAgeField, perSegment, perAge}
+use Rattle.fields.specs.Layout.{firstSegmentField, firstAgeField, perSegment, perAge, mostAges}
 use Rattle.logarithm.specs.Logarithm.{serviceLife}
 use Rattle.fields.specs.Quantities.{kindCode, steelCode, ultimateStrength, jackingStress, deflectorLoss, slip}
 use Rattle.fields.specs.Quantities.{tendonLength, cureCode, concreteCode, Es, Eci, Ec, volumeToSurface, area, inertia}
@@ -149,6 +149,10 @@ duct pretensioned segments friction =
 -- "creep, shrinkage, relaxation, stress per age"
 abbrev pub perRow : ℕ
 perRow = 4
+
+-- the numbers of the longest report
+abbrev pub mostNumbers : ℕ
+mostNumbers = perRow * mostAges
 
 -- "report or scratch under 4n numbers"
 abbrev pub buffers : ℕ → ℕ → ℕ → List Check

@@ -5,7 +5,7 @@ ghost use lib.ListN.{length, take, drop};
 ghost use Rattle.fields.specs.Layout.{columns};
 ghost use Rattle.fields.specs.Amounts.{over};
 ghost use Rattle.line.specs.Line.{spacesIn, digitsOf, fieldAt, amountOf, isRight, lineNumbers};
-ghost use Rattle.line.specs.Bounds.{LineFits};
+ghost use Rattle.line.specs.Conditions.{LineFits};
 use fields::layout::SLIP;
 use ticks::Amount;
 

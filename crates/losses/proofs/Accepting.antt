@@ -16,7 +16,7 @@ use Rattle.checks.specs.Readable.{Readable}
 use Rattle.member.specs.Member.{memberOf, checkedOf}
 use Rattle.member.specs.Facts.{RisingFrom, rises, MomentsWithin, adds, Facts}
 use Rattle.member.proofs.Laws.{accepted}
-use Rattle.stages.specs.Bounds.{Bounded, AgesBounded}
+use Rattle.stages.specs.Conditions.{Bounded, AgesBounded}
 use Rattle.losses.specs.Conditions.{Runnable}
 
 -- U at the most of its three coefficients

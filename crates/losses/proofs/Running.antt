@@ -15,6 +15,7 @@ use Rattle.fields.proofs.Buffers.{length-over, written-behind}
 use Rattle.member.specs.declared.Member.{Member}
 use Rattle.fields.specs.Quantities.{Age, agesFrom, agesOf}
 use Rattle.checks.specs.Rows.{perRow}
+use Rattle.steps.specs.Conditions.{stressLimit}
 use Rattle.stages.specs.declared.Stress.{Stress}
 use Rattle.stages.specs.declared.Stress.the-variants.{Left, Gone}
 use Rattle.stages.specs.declared.ends.End.{End}
@@ -23,7 +24,7 @@ use Rattle.stages.specs.declared.intervals.Passed.{Passed}
 use Rattle.stages.specs.declared.intervals.Passed.the-variants.{By, Gone as NonePassed}
 use Rattle.losses.specs.declared.ages.LastStress.the-variants.{Of, GoneAt}
 use Rattle.stages.specs.Stresses.{after}
-use Rattle.stages.specs.Bounds.{Bounded, AgesBounded}
+use Rattle.stages.specs.Conditions.{Bounded, AgesBounded}
 use Rattle.stages.specs.Ages.{Start, Aged, behind, onward, nextStart, rowOf, lossesIn, agedFrom}
 use Rattle.stages.specs.Intervals.{endAt, lossesBetween, passing, passed}
 use Rattle.losses.specs.RunAges.{RanAges}
@@ -77,7 +78,7 @@ pub record Progress (m : Member) (fields : List ℕ) (first : ℕ) (old scratch 
   pub at-is : at ≡ perRow * number
   pub from : Start
   pub stress-is : stress ≡ from .stress
-  pub stress-fits : stress < 2 ^ 28
+  pub stress-fits : stress < stressLimit
   pub start-is : start ≡ startEnd m from
   pub ages-bounded : AgesBounded (from .moments) (agesLeft m fields field number)
   pub rows : List ℕ
@@ -220,7 +221,7 @@ module _ {m : Member} {fields : List ℕ} {first : ℕ} {old scratch : List ℕ}
             let a = p .at-is in
             let r = p .room in
             let all = rows-then in
-            let fits : p .from .stress < 2 ^ 28 = rw (p .stress-is) at (p .stress-fits) in
+            let fits : p .from .stress < stressLimit = rw (p .stress-is) at (p .stress-fits) in
             record {
               member = p .member;
               within = omega arith;

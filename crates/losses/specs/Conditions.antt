@@ -1,5 +1,5 @@
 -- What the inner functions of the run ask for: no entry does, and every accepted member has it. Assumes nothing.
-use Prim.Native.Nat.{ℕ, _*_, _^_, _≤_, _<_}
+use Prim.Native.Nat.{ℕ, _*_, _≤_, _<_}
 use mathlib.Core.Path.{_≡_}
 use mathlib.Core.List.{List}
 use lib.ListN.{length}
@@ -7,8 +7,9 @@ use Rattle.logarithm.specs.Logarithm.{IsTable}
 use Rattle.fields.specs.Quantities.{Age}
 use Rattle.checks.specs.Rows.{perRow}
 use Rattle.member.specs.declared.Member.{Member}
+use Rattle.steps.specs.Conditions.{stressLimit}
 use Rattle.stages.specs.declared.ends.End.{End}
-use Rattle.stages.specs.Bounds.{Bounded, AgesBounded}
+use Rattle.stages.specs.Conditions.{Bounded, AgesBounded}
 use Rattle.stages.specs.Intervals.{transferEnd}
 use Rattle.losses.specs.Rows.{RoomForRows}
 
@@ -25,5 +26,5 @@ pub record AgesRunnable (m : Member) (ages : List Age) (thresholds : List ℕ) (
   pub ages-bounded : AgesBounded (m .«own_weight_moment») ages
   pub thresholds-are : IsTable thresholds
   pub transfer-is : transfer ≡ transferEnd m
-  pub stress-fits : stress < 2 ^ 28
+  pub stress-fits : stress < stressLimit
   pub scratch-room : perRow * m .ages ≤ length scratch

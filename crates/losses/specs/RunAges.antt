@@ -1,10 +1,11 @@
 -- What the run makes of the ages: the last stress, and a row for each in the scratch. Assumes nothing.
-use Prim.Native.Nat.{ℕ, _*_, _^_, _<_}
+use Prim.Native.Nat.{ℕ, _*_, _<_}
 use mathlib.Core.Path.{_≡_}
 use mathlib.Core.List.{List}
 use lib.ListN.{length}
 use Rattle.checks.specs.Rows.{perRow}
 use Rattle.fields.specs.Amounts.{over}
+use Rattle.steps.specs.Conditions.{stressLimit}
 use Rattle.stages.specs.declared.Stress.{Stress}
 use Rattle.stages.specs.declared.Stress.the-variants.{Left, Gone}
 use Rattle.stages.specs.Ages.{Aged}
@@ -21,7 +22,7 @@ last aged = lastOf (aged .stress) (aged .number)
 
 -- all of so many ages are passed: the stress that is left fits, and each age has its row
 pub record Passed (stress ages : ℕ) (rows : List ℕ) : Type 0 where
-  pub stress-fits : stress < 2 ^ 28
+  pub stress-fits : stress < stressLimit
   pub rows-length : length rows ≡ perRow * ages
 
 abbrev pub PassedIf : LastStress → ℕ → List ℕ → Type 0

@@ -7,7 +7,7 @@ ghost use Rattle.fields.specs.Amounts.{over};
 ghost use Rattle.list.specs.Lists.{listOutcome};
 ghost use Rattle.numbers.specs.Numbers.{room, written, numbersFrom, doublesOf, bytesOutcome};
 ghost use Rattle.numbers.specs.Parts.{standsFor, mostDoubles};
-ghost use Rattle.numbers.specs.Bounds.{Holds};
+ghost use Rattle.numbers.specs.Conditions.{Holds};
 use fields::layout::MOST_FIELDS;
 use fields::refusal::Reading;
 use fields::refusal::Refusal;

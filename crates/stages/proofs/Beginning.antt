@@ -8,14 +8,14 @@ use Rattle.coefficient.specs.declared.codes.Kind.{Kind}
 use Rattle.coefficient.specs.declared.codes.Kind.the-variants.{Pretensioned, PostTensioned}
 use Rattle.member.specs.declared.Member.{Member}
 use Rattle.steps.specs.Steps.{relaxationLoss}
-use Rattle.steps.specs.Bounds.{stressLimit}
+use Rattle.steps.specs.Conditions.{stressLimit}
 use Rattle.stages.specs.declared.Stress.{Stress}
 use Rattle.stages.specs.declared.Stress.the-variants.{Left, Gone}
 use Rattle.stages.specs.declared.BeforeAges.{BeforeAges}
 use Rattle.stages.specs.declared.Begun.{Begun}
 use Rattle.stages.specs.declared.Begun.the-variants.{Begins, Fails}
 use Rattle.stages.specs.Stresses.{after}
-use Rattle.stages.specs.Bounds.{Bounded}
+use Rattle.stages.specs.Conditions.{Bounded}
 use Rattle.stages.specs.BeforeAges.{jacked, frictionOf, slipOf, deflectorOf, relaxationLogarithm}
 use Rattle.stages.specs.BeforeAges.{earlyRelaxation, earlyRelaxationOf}
 use Rattle.stages.specs.BeforeAges.{shorteningOf, onward, begunOf}

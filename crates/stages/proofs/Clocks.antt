@@ -4,7 +4,7 @@ use Rattle.logarithm.specs.Logarithm.{logarithm, lastThreshold}
 use Rattle.logarithm.proofs.Largest.{no-more}
 use Rattle.coefficient.proofs.Laws.{creep-most, shrinkage-most}
 use Rattle.member.specs.declared.Member.{Member}
-use Rattle.stages.specs.Bounds.{EndBounded}
+use Rattle.stages.specs.Conditions.{EndBounded}
 use Rattle.stages.specs.Intervals.{endAt}
 
 pub logarithm-most : (hour : ℕ) → logarithm hour ≤ lastThreshold

@@ -4,14 +4,14 @@ use Prim.Native.Nat.{ℕ, _-_, _^_, _≤_}
 use native.Mathlib.Omega.{arith}
 use Rattle.member.specs.declared.Member.{Member}
 use Rattle.steps.specs.Steps.{concreteStress}
-use Rattle.steps.specs.Bounds.{ConcreteFits, CreepFits, ShrinkageFits, RelaxationFits}
+use Rattle.steps.specs.Conditions.{ConcreteFits, CreepFits, ShrinkageFits, RelaxationFits}
 use Rattle.steps.proofs.Laws.{concrete-most, creep-most, shrinkage-most, relaxation-most}
 use Rattle.stages.specs.declared.Stress.the-variants.{Left, Gone}
 use Rattle.stages.specs.declared.ends.End.{End}
 use Rattle.stages.specs.declared.intervals.Losses.{Losses}
 use Rattle.stages.specs.declared.intervals.Passed.the-variants.{By, Gone as NonePassed}
 use Rattle.stages.specs.Stresses.{after}
-use Rattle.stages.specs.Bounds.{PassFits}
+use Rattle.stages.specs.Conditions.{PassFits}
 use Rattle.stages.specs.Intervals.{lossesBetween, together, passed}
 
 pub record LossesFit (losses : Losses) : Type 0 where

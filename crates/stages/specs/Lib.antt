@@ -3,5 +3,5 @@ pub mod BeforeAges
 pub mod Parts
 pub mod Ages
 pub mod Intervals
-pub mod Bounds
+pub mod Conditions
 pub mod Run

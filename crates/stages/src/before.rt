@@ -1,7 +1,7 @@
 // The losses before the ages, and the stress that each leaves.
 ghost use mathlib.Core.Path.{_≡_};
 ghost use Rattle.stages.specs.Stresses.{after as afterLoss};
-ghost use Rattle.stages.specs.Bounds.{BeginFits, LossFits};
+ghost use Rattle.stages.specs.Conditions.{BeginFits, LossFits};
 ghost use Rattle.stages.specs.BeforeAges.{earlyRelaxationOf, shorteningOf, begunOf};
 ghost use Rattle.stages.specs.Parts.{afterThree};
 use crate::BeforeAges;

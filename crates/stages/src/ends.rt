@@ -1,6 +1,6 @@
 // The ends of the intervals, read once each: one interval's end is the next one's start.
 ghost use mathlib.Core.Path.{_≡_};
-ghost use Rattle.stages.specs.Bounds.{EndFits};
+ghost use Rattle.stages.specs.Conditions.{EndFits};
 ghost use Rattle.stages.specs.Intervals.{endAt};
 use coefficient::clocks::SERVICE_LIFE;
 use logarithm::ENTRIES;

@@ -1,6 +1,6 @@
 // The losses of an interval, from its two ends.
 ghost use mathlib.Core.Path.{_≡_};
-ghost use Rattle.stages.specs.Bounds.{PassFits};
+ghost use Rattle.stages.specs.Conditions.{PassFits};
 ghost use Rattle.stages.specs.Intervals.{lossesBetween, passed};
 use crate::Stress;
 use crate::before;

@@ -8,8 +8,8 @@ use Rattle.coefficient.specs.declared.codes.Steel.{Steel}
 use Rattle.coefficient.specs.declared.codes.Steel.the-variants.{StressRelieved, LowRelaxation}
 use Rattle.steps.specs.Steps.{yield, relaxationDivisor, relaxationFactor, relaxationLoss}
 use Rattle.steps.specs.Steps.{concreteStress, creepLoss, shrinkageLoss}
-use Rattle.steps.specs.Bounds.{stressLimit, leastStrength, logarithmLimit, creepLimit}
-use Rattle.steps.specs.Bounds.{RelaxationFits, ConcreteFits, CreepFits, ShrinkageFits}
+use Rattle.steps.specs.Conditions.{stressLimit, leastStrength, logarithmLimit, creepLimit}
+use Rattle.steps.specs.Conditions.{RelaxationFits, ConcreteFits, CreepFits, ShrinkageFits}
 use Rattle.steps.proofs.Products.{product}
 
 pub yield-least : (steel : Steel) (ultimateStrength : ℕ) → leastStrength ≤ ultimateStrength → 2 ^ 26 ≤ yield steel ultimateStrength

@@ -18,7 +18,7 @@ use Rattle.member.specs.declared.Member.{Member}
 use Rattle.member.specs.declared.Checked.{Checked}
 use Rattle.member.specs.declared.Checked.the-variants.{Accepted, Refused}
 use Rattle.fields.specs.Quantities.{Age, agesOf}
-use Rattle.checks.specs.Rows.{firstFailing, perRow}
+use Rattle.checks.specs.Rows.{firstFailing, perRow, mostNumbers}
 use Rattle.member.specs.Member.{checkedOf}
 use Rattle.member.proofs.Laws.{accepted}
 use Rattle.stages.specs.declared.Stress.{Stress}
@@ -33,7 +33,7 @@ use Rattle.stages.specs.Ages.{Start, Aged, agedFrom, onward, behind, rowOf, nex
 use Rattle.stages.specs.Run.{Result, reported, refused, startOf, resultOfAges, resultOfBegun, memberResult, resultOfChecked}
 use Rattle.stages.specs.Run.{resultOfReading}
 use Rattle.losses.specs.Answers.{rowsOf, Ran}
-use Rattle.stratelyn.specs.Parts.{mostNumbers, Front, Rowed}
+use Rattle.stratelyn.specs.Parts.{Front, Rowed}
 
 -- ---- four numbers for each age
 

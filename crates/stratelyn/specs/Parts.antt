@@ -8,18 +8,13 @@ use lib.Dec.{T}
 use lib.Ieee.{Float, isNan}
 use lib.ListN.{length, take}
 use Rattle.fields.specs.declared.refusal.Reading.{Reading}
-use Rattle.fields.specs.Layout.{mostAges}
-use Rattle.checks.specs.Rows.{perRow}
+use Rattle.checks.specs.Rows.{perRow, mostNumbers}
 use Rattle.checks.specs.Readable.{Readable, ReadableIf}
 use Rattle.losses.specs.declared.Answer.{Answer}
 use Rattle.stages.specs.Run.{Result, reported, refused}
 use Rattle.losses.specs.Answers.{Answered}
 use Rattle.numbers.specs.Numbers.{written}
 use Rattle.stratelyn.specs.Hosts.{replyBytes}
-
--- the most numbers that a run can ask a buffer for
-abbrev pub mostNumbers : ℕ
-mostNumbers = perRow * mostAges
 
 -- ---- what the inner functions ask for: no entry does
 

@@ -9,8 +9,8 @@ ghost use Rattle.losses.specs.Answers.{acceptanceNumber, acceptanceValues, refu
 ghost use Rattle.numbers.specs.Numbers.{room};
 ghost use Rattle.stratelyn.specs.Hosts.{replyBytes, Hosted};
 ghost use Rattle.stratelyn.specs.Parts.{Servable, RowsRunnable, Acceptable, Rowed, Replied};
+use checks::buffers::MOST_NUMBERS;
 use checks::buffers::PER_ROW;
-use fields::layout::MOST_AGES;
 use fields::layout::MOST_FIELDS;
 use fields::refusal::Reading;
 use fields::refusal::Refusal;
@@ -18,9 +18,6 @@ use losses::Answer;
 use stages::BeforeAges;
 
 pub const REPLY_BYTES: usize = 64;
-
-// The most numbers that the rows of a report have.
-const MOST_NUMBERS: usize = PER_ROW * MOST_AGES;
 
 // What an accepted run returns.
 const ACCEPTED: u64 = 0;

@@ -17,7 +17,7 @@ use Rattle.fields.specs.declared.refusal.Reading.the-variants.{Fields, Not}
 use Rattle.fields.specs.Layout.{mostFields, headFields, perSegment, perAge}
 use Rattle.fields.specs.Quantities.{Age, agesFrom, agesOf}
 use Rattle.fields.proofs.Buffers.{length-over, written-behind}
-use Rattle.checks.specs.Rows.{perRow}
+use Rattle.checks.specs.Rows.{perRow, mostNumbers}
 use Rattle.fields.specs.declared.refusal.Refusal.{Refusal}
 use Rattle.fields.specs.Refusals.{number, place}
 use Rattle.stages.specs.declared.BeforeAges.{BeforeAges}
@@ -33,7 +33,7 @@ use Rattle.losses.proofs.Padding.{Same, drop-same, same-ages, over-zeros}
 use Rattle.losses.proofs.Readers.{same-result}
 use Rattle.text.specs.Columns.{lineOf, Holds}
 use Rattle.text.specs.Conditions.{mostLine, AgesFit, RunFits}
-use Rattle.text.specs.Text.{refusalText, numbersBefore, beforeText, agesText, resultText, mostNumbers, cardText}
+use Rattle.text.specs.Text.{refusalText, numbersBefore, beforeText, agesText, resultText, cardText}
 use Rattle.text.proofs.Laying.{holding, line-length}
 
 -- a text behind another, by way of `&mut buffer[at..]`

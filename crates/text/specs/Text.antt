@@ -6,10 +6,9 @@ use lib.ListN.{length, getD, take, drop}
 use Rattle.fields.specs.declared.refusal.Refusal.{Refusal}
 use Rattle.fields.specs.declared.refusal.Reading.{Reading}
 use Rattle.fields.specs.declared.refusal.Reading.the-variants.{Fields, Not}
-use Rattle.fields.specs.Layout.{mostAges}
 use Rattle.fields.specs.Refusals.{number, place}
 use Rattle.fields.specs.Quantities.{Age, agesOf}
-use Rattle.checks.specs.Rows.{perRow}
+use Rattle.checks.specs.Rows.{perRow, mostNumbers}
 use Rattle.card.specs.Card.{cardOutcome}
 use Rattle.stages.specs.declared.BeforeAges.{BeforeAges}
 use Rattle.stages.specs.Run.{Result, reported, refused}
@@ -44,11 +43,7 @@ abbrev pub agesRead : Reading → List ℕ → List Age
 agesRead (Fields segments ages) fields = agesOf segments ages fields
 agesRead (Not refusal) fields = []
 
--- the numbers of the longest report: room for every member's rows
-abbrev pub mostNumbers : ℕ
-mostNumbers = perRow * mostAges
-
--- "The report program reads a card from standard input.": what it prints for a card
+-- "The report program reads a card from standard input.": what it prints for a card. It lends room for every member's rows.
 unfoldable pub cardText : List ℕ → List ℕ
 cardText card =
     let outcome = cardOutcome card in

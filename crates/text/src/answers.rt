@@ -1,13 +1,14 @@
 // What is printed of a run: a line of number and place, or a line of the losses before the ages and a line for each age.
 ghost use Rattle.fields.specs.Quantities.{agesOf};
+ghost use Rattle.checks.specs.Rows.{mostNumbers};
 ghost use Rattle.stages.specs.Run.{resultOfReading};
 ghost use Rattle.text.specs.Columns.{Holds};
 ghost use Rattle.text.specs.Conditions.{LineFits, AgesFit, RunFits};
-ghost use Rattle.text.specs.Text.{refusalText, beforeText, agesText, resultText, mostNumbers};
+ghost use Rattle.text.specs.Text.{refusalText, beforeText, agesText, resultText};
 use crate::columns;
+use checks::buffers::MOST_NUMBERS;
 use checks::buffers::PER_ROW;
 use fields::layout::HEAD_FIELDS;
-use fields::layout::MOST_AGES;
 use fields::layout::MOST_FIELDS;
 use fields::layout::PER_AGE;
 use fields::layout::PER_SEGMENT;
@@ -17,9 +18,6 @@ use fields::refusal::Refusal;
 use losses::Answer;
 use losses::run;
 use stages::BeforeAges;
-
-// Numbers of the longest report.
-const MOST_NUMBERS: usize = PER_ROW * MOST_AGES;
 
 // A refusal's line.
 pub(crate) fn put_refusal(part: &mut [u8], refusal: Refusal) -> usize

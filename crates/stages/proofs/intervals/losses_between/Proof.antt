@@ -5,7 +5,7 @@ use Prim.Native.Nat.{_<_}
 use Rattle.stages.proofs.intervals.losses_between.Statement.{statement}
 use Rattle.stages.proofs.intervals.losses_between.Tie as tie
 use Rattle.steps.proofs.Laws.{concrete-most}
-use Rattle.steps.specs.Bounds.{stressLimit, ConcreteFits}
+use Rattle.steps.specs.Conditions.{stressLimit, ConcreteFits}
 
 concrete-stress-requires : tie.Need-concrete-stress-requires
 concrete-stress-requires c κs = search needs

@@ -1,6 +1,6 @@
 -- What the answer prints is what the run's result does: a refusal's line, or the line before the ages and theirs behind it. Assumes
 -- nothing.
-use Rattle.text.specs.Text.{mostNumbers}
+use Rattle.checks.specs.Rows.{mostNumbers}
 use Rattle.text.proofs.Texts.{holds-then, ages-fit, refusal-printed, run-printed}
 use borrow.Author.Needs.{needs}
 use Rattle.text.proofs.answers.put_run.Statement.{statement}

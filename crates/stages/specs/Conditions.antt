@@ -9,8 +9,8 @@ use Rattle.member.specs.declared.Member.{Member}
 use Rattle.fields.specs.Quantities.{Age}
 use Rattle.checks.specs.Rows.{mostMoment, mostKappa}
 use Rattle.fields.specs.Layout.{mostSegments, mostAges}
-use Rattle.steps.specs.Bounds.{stressLimit, frictionLimit, slipLimit, lengthLimit, deflectorLimit, leastStrength, strengthLimit}
-use Rattle.steps.specs.Bounds.{esLimit, eciLimit, eccentricityLimit, creepLimit, shrinkageLimit}
+use Rattle.steps.specs.Conditions.{stressLimit, frictionLimit, slipLimit, lengthLimit, deflectorLimit, leastStrength, strengthLimit}
+use Rattle.steps.specs.Conditions.{esLimit, eciLimit, eccentricityLimit, creepLimit, shrinkageLimit}
 use Rattle.stages.specs.declared.ends.End.{End}
 use Rattle.stages.specs.BeforeAges.{jacked}
 use Rattle.stages.specs.Intervals.{transferEnd}
