@@ -1,13 +1,15 @@
--- What an accepted card has: counts within their limits, a number for each field, the counts in fields 23 and 24, and numbers of
--- at most 14 digits. The first four follow case by case from the outcome's tests, the last by induction over lines. Assumes nothing.
-use mathlib.Core.Path.{_≡_, refl, _∙_}
+-- What an accepted card has: counts within their limits, a number for each field, the counts in fields 23 and 24, numbers of at most 14
+-- digits, and no more bytes than the longest good card. All but the digits follow case by case from the outcome's tests, these by
+-- induction over lines. Assumes nothing.
+use mathlib.Core.Path.{_≡_, refl, ap, _∙_}
 use mathlib.Core.Bool.{Bool, true, false, cond}
 use mathlib.Core.List.{List, [], _∷_, _++_}
-use Prim.Native.Nat.{ℕ, suc, _+_, _-_, _*_}
+use Prim.Native.Nat.{ℕ, suc, _+_, _-_, _*_, _≤_, _<_}
+use native.Mathlib.Nat.{le-of-eq}
 use native.Mathlib.Omega.{arith}
 use lib.Dec.{ltb}
-use lib.ListN.{length, drop, replicate, length-append, List·getD-append}
-use borrow.Author.Tests.{ltb-false}
+use lib.ListN.{length, drop, replicate, length-append, length-drop, List·getD-append}
+use borrow.Author.Tests.{ltb-false, le-ltb}
 use Rattle.fields.specs.declared.refusal.Refusal.{Refusal}
 use Rattle.fields.specs.declared.refusal.Refusal.the-variants.{Shape, Ranges}
 use Rattle.fields.specs.declared.refusal.Reading.the-variants.{Fields, Not}
@@ -17,11 +19,11 @@ use Rattle.fields.specs.Amounts.{Outcome, refused, accepted}
 use Rattle.line.specs.Line.{isRight}
 use Rattle.line.specs.Line.{lineLength, lineNumbers}
 use Rattle.card.specs.Card.{Lines, readLines, headLines, head, firstSegmentLine, announcedLines}
-use Rattle.card.specs.Card.{segmentsIn, agesIn, announced, lineBehind, firstWrong, cardOutcome}
+use Rattle.card.specs.Card.{bytesOn, segmentsIn, agesIn, announced, mostBytes, lineBehind, firstWrong, cardOutcome}
 use Rattle.fields.proofs.Accepted.{Accepted}
 use Rattle.fields.proofs.Laws.{ages-in-range}
-use Rattle.card.proofs.Lines.{Right, lines-right, fields-append}
-use Rattle.card.proofs.Outcome.{fields-replicate}
+use Rattle.card.proofs.Lines.{Right, lines-right, fields-append, bytes-append}
+use Rattle.card.proofs.Outcome.{fields-replicate, bytes-replicate}
 use Rattle.line.proofs.Laws.{Below, none-below, append-below, line-below}
 
 -- ---- numbers of at most 14 digits
@@ -141,3 +143,41 @@ card-accepted card segments ages =
           ages-field = List·getD-append numbers more 0 (agesField - 1) (omega arith) ∙ ages-are;
           below = whole-below card;
         }
+
+-- ---- the longest good card
+
+no-rest : (lines : Lines) (behind : ℕ) → 0 < behind → ltb 0 (firstWrong lines behind) ≡ false → length (lines .rest) ≡ 0
+no-rest lines behind some e = by-rest (ltb 0 (length (lines .rest))) refl
+  where
+    by-rest : (b : Bool) → ltb 0 (length (lines .rest)) ≡ b → length (lines .rest) ≡ 0
+    by-rest true q =
+        let right : ltb 0 (lines .wrong) ≡ false = le-ltb 0 (lines .wrong) (le-of-eq (no-wrong-line lines behind e)) in
+        let is : ltb 0 behind ≡ false = rw (right, q) at e in
+        absurd (let line = ltb-false 0 behind is in omega arith)
+    by-rest false q = let le = ltb-false 0 (length (lines .rest)) q in omega arith
+
+pub card-fits : (card : List ℕ) (segments ages : ℕ) → cardOutcome card .reading ≡ Fields segments ages → length card ≤ mostBytes
+card-fits card segments ages =
+    by-outcome card (λ (o : Outcome). o .reading ≡ Fields segments ages → length card ≤ mostBytes)
+    (λ r e. absurd (let z : _≡_ {A = ℕ} 0 1 = cc in omega arith)) (λ r e. absurd (let z : _≡_ {A = ℕ} 0 1 = cc in omega arith)) good
+  where
+    good : ltb 0 (head card .wrong) ≡ false → ltb mostSegments (inSegments card) ≡ false → agesOutOfRange (inAges card) ≡ false
+        → ltb 0 (wrongLine card) ≡ false → Fields (inSegments card) (inAges card) ≡ Fields segments ages → length card ≤ mostBytes
+    good h s a w e =
+        let none = ltb-false 0 (head card .wrong) h in
+        let first-right = lines-right headLines 1 1 card (omega arith) (omega arith) in
+        let first-rest = ap length (first-right .rest) ∙ length-drop (bytesOn headLines) card in
+        let line = lineBehind (inSegments card) (inAges card) in
+        let counts = announcedLines (inSegments card) (inAges card) in
+        let more-right =
+        lines-right counts firstSegmentLine firstSegmentField (head card .rest) (omega arith) (no-wrong-line (announced card) line w) in
+        let more-rest = ap length (more-right .rest) ∙ length-drop (bytesOn counts) (head card .rest) in
+        let nothing = no-rest (announced card) line (omega arith) w in
+        let all = bytes-append (replicate (inSegments card) perSegment) (replicate (inAges card) perAge) in
+        let of-segments = bytes-replicate (inSegments card) perSegment in
+        let of-ages = bytes-replicate (inAges card) perAge in
+        let few = ltb-false mostSegments (inSegments card) s in
+        let counted = ages-in-range (inAges card) a in
+        let first-long = first-right .long in
+        let more-long = more-right .long in
+        omega arith

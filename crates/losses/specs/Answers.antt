@@ -6,7 +6,7 @@ use mathlib.Core.Bool.{Bool, true, false, not}
 use Prim.Native.Nat.{ℕ}
 use lib.Dec.{eqb}
 use lib.IntN.{negsuc}
-use mathlib.Core.List.{List, [], _∷_}
+use mathlib.Core.List.{List, [], _∷_, _++_}
 use lib.Ieee.{Float, fin, binary64, toBits}
 use lib.Ieee.Exact.{HasValue}
 use lib.ListN.{length, replicate}
@@ -43,11 +43,14 @@ answerNumber (RefusedRun refusal) = number refusal
 
 -- ---- the values
 
+-- "the five losses before the ages and the stress after them"
+abbrev pub numbersBefore : BeforeAges → List ℕ
+numbersBefore before =
+    before .friction ∷ before .slip ∷ before .deflector ∷ before .«early_relaxation» ∷ before .shortening ∷ before .stress ∷ []
+
 -- "place (0 if accepted), five losses, stress before the ages and last stress as a double", "a double by its bits"
 abbrev pub acceptanceValues : BeforeAges → Float → List ℕ
-acceptanceValues before last =
-    0 ∷ before .friction ∷ before .slip ∷ before .deflector ∷ before .«early_relaxation» ∷ before .shortening ∷ before .stress
-    ∷ toBits binary64 last ∷ []
+acceptanceValues before last = 0 ∷ numbersBefore before ++ (toBits binary64 last ∷ [])
 
 -- "on a refusal the place and seven zeros"
 abbrev pub refusalValues : Refusal → List ℕ

@@ -1,5 +1,5 @@
--- What an entry promises of its answer and of the lent buffers, for every input: document 01's three demands. An entry has no condition
--- (demand 1), answers what the definitions give (demand 2), and what they give is close (demand 3). Assumes nothing.
+-- What an entry promises of its answer and of the lent buffers, for every input: the three demands. An entry has no condition (demand 1),
+-- answers what the definitions give (demand 2), and what they give is close (demand 3). Assumes nothing.
 use Prim.Native.Nat.{ℕ}
 use mathlib.Core.List.{List}
 use lib.ListN.{length}

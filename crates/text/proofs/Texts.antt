@@ -27,13 +27,13 @@ use Rattle.card.proofs.Laws.{card-accepted}
 use Rattle.card.proofs.Behind.{behind}
 use Rattle.losses.specs.declared.Reply.{Reply}
 use Rattle.losses.specs.declared.Answer.the-variants.{Accepted, Refused}
-use Rattle.losses.specs.Answers.{Answered, rowsOf}
+use Rattle.losses.specs.Answers.{numbersBefore, Answered, rowsOf}
 use Rattle.losses.proofs.Deciding.{refusal-number}
 use Rattle.losses.proofs.Padding.{Same, drop-same, same-ages, over-zeros}
 use Rattle.losses.proofs.Readers.{same-result}
 use Rattle.text.specs.Columns.{lineOf, Holds}
 use Rattle.text.specs.Conditions.{mostLine, AgesFit, RunFits}
-use Rattle.text.specs.Text.{refusalText, numbersBefore, beforeText, agesText, resultText, cardText}
+use Rattle.text.specs.Text.{refusalText, beforeText, agesText, resultText, cardText}
 use Rattle.text.proofs.Laying.{holding, line-length}
 
 -- a text behind another, by way of `&mut buffer[at..]`

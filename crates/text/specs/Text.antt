@@ -12,18 +12,15 @@ use Rattle.checks.specs.Rows.{perRow, mostNumbers}
 use Rattle.card.specs.Card.{cardOutcome}
 use Rattle.stages.specs.declared.BeforeAges.{BeforeAges}
 use Rattle.stages.specs.Run.{Result, reported, refused}
+use Rattle.losses.specs.Answers.{numbersBefore}
 use Rattle.losses.specs.Promise.{resultOf}
-use Rattle.text.specs.Columns.{lineOf, Front, Holds}
+use Rattle.text.specs.Columns.{lineOf, Holds}
 
 -- "A refused card prints number and place, one line of two such columns."
 abbrev pub refusalText : Refusal → List ℕ
 refusalText refusal = lineOf (number refusal ∷ place refusal ∷ [])
 
 -- "It prints friction, slip, deflector, early relaxation, shortening, stress"
-abbrev pub numbersBefore : BeforeAges → List ℕ
-numbersBefore before =
-    before .friction ∷ before .slip ∷ before .deflector ∷ before .«early_relaxation» ∷ before .shortening ∷ before .stress ∷ []
-
 abbrev pub beforeText : BeforeAges → List ℕ
 beforeText before = lineOf (numbersBefore before)
 
@@ -53,7 +50,7 @@ cardText card =
 abbrev pub Read : List ℕ → ℕ → List ℕ → Type 0
 Read buffer bytes input = take bytes buffer ≡ take (length buffer) input
 
--- what is printed is the text of the whole input, of which the buffer may hold only the first bytes
+-- what is printed is the text of the bytes that were read, and so of the whole input, of which they may be only the first
 pub record PrintsAll (buffer : List ℕ) (read bytes : ℕ) (text was : List ℕ) : Type 0 where
-  pub whole : (input : List ℕ) → Read buffer read input → Holds (cardText input) bytes text was
-  pub fits : Front bytes text
+  pub exact : Holds (cardText (take read buffer)) bytes text was
+  pub whole : (input : List ℕ) → Read buffer read input → cardText (take read buffer) ≡ cardText input

@@ -1,4 +1,4 @@
--- Demand 3 of document 01 as one statement about an accepted run. Assumes nothing.
+-- Demand 3 as one statement about an accepted run: document 01, "Steps", last paragraph. Assumes nothing.
 use Prim.Native.Nat.{ℕ, zero, suc, _+_, _*_, _≤_, _<_}
 use mathlib.Core.Path.{_≡_}
 use mathlib.Core.List.{List, [], _∷_}
@@ -12,7 +12,8 @@ use Rattle.tolerance.specs.Logarithms.{Admissible, tableLogarithm}
 use Rattle.tolerance.specs.Stresses.{jacked, afterDeflector, exactStresses}
 use Rattle.tolerance.specs.Stresses.{coreFriction, coreAfterSegments, coreAfterDeflector, coreStresses}
 
--- what the demand allows a step: 1 psi where both read the core's logarithms, 40 psi where the fractions read others; in ticks
+-- what the demand allows a step, in ticks: 1 psi where the fractions read the core's logarithms, and 40 psi whatever admissible ones
+-- they read
 abbrev pub narrowStep : ℕ
 narrowStep = 1 * ticksPerUnit
 

@@ -1,6 +1,6 @@
 -- The bytes that were read are the first of the input, all or more than the longest good card has: their text is the input's. Assumes
 -- nothing.
-use mathlib.Core.Path.{sym, _∙_}
+use mathlib.Core.Path.{sym}
 use lib.Seq.{length-take-le, take-all}
 use Rattle.text.proofs.Texts.{input-text}
 use borrow.Author.Needs.{needs}
@@ -16,12 +16,10 @@ same-length c = search needs
 returns : tie.Need-returns
 returns c =
     let start = c .before .before .before .before .before .before .before in
-    let holds = c .before .before .put-card .ensures in
     let all = take-all (start .args .read) (start .args .buffer .now) (search needs) in
     record {
-      whole = λ input is.
-          rw (input-text (start .args .buffer .now) (start .args .buffer .now) input (start .pre .more) (sym all ∙ is)) at holds;
-      fits = holds .fits;
+      exact = rw all (c .before .before .put-card .ensures);
+      whole = λ input. input-text (start .args .buffer .now) _ input (start .pre .more);
     }
 
 slice-aggregate-put-card : tie.Need-slice-aggregate-put-card
@@ -38,10 +36,9 @@ same-length-2 c = search needs
 returns-2 : tie.Need-returns-2
 returns-2 c =
     let start = c .before .before .before .before .before .before .before .before in
-    let holds = c .before .before .put-card2 .ensures in
     record {
-      whole = λ input is. rw (input-text (start .args .buffer .now) _ input (start .pre .more) is) at holds;
-      fits = holds .fits;
+      exact = c .before .before .put-card2 .ensures;
+      whole = λ input. input-text (start .args .buffer .now) _ input (start .pre .more);
     }
 
 pub put-input-spec : {M : Type 1} → statement M
