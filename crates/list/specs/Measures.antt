@@ -39,7 +39,7 @@ abbrev pub is : Amount → ℕ → Bool
 is (Of n) number = eqb n number
 is Refused number = false
 
--- "1 straight (.. rise 0); 2 parabola ..; 3 bend (length 0, third field the angle)"
+-- "1 straight (.. rise 0); 2 parabola ..; 3 bend (length 0, third field the angle ..)"
 abbrev pub isStraight : Float → Float → Bool
 isStraight kind third = is (wholeIn kind) 1 && is (ticksIn third) 0
 
