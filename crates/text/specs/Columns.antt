@@ -9,10 +9,14 @@ use Rattle.fields.specs.Layout.{columns}
 use Rattle.fields.specs.Amounts.{over}
 use Rattle.line.specs.Line.{space, lineFeed}
 
+-- a number's last digit; 0 is byte 48
+abbrev pub digit : ℕ → ℕ
+digit number = 48 + number % 10
+
 -- what stands in a column, where `rest` is left of the number: its last digit, or a space where no digit is left. The last column has
 -- a digit even of 0.
 abbrev pub digitOrSpace : ℕ → ℕ → ℕ
-digitOrSpace rest column = cond (eqb rest 0 && ltb column (columns - 1)) space (48 + rest % 10)
+digitOrSpace rest column = cond (eqb rest 0 && ltb column (columns - 1)) space (digit rest)
 
 -- the first so many columns, where `rest` is left of the number
 unfoldable pub firstColumns : ℕ → ℕ → List ℕ
@@ -28,9 +32,12 @@ unfoldable pub allInColumns : List ℕ → List ℕ
 allInColumns [] = []
 allInColumns (number ∷ numbers) = inColumns number ++ allInColumns numbers
 
--- a line of numbers
+-- a line of numbers, and the most that a line has
 abbrev pub lineOf : List ℕ → List ℕ
 lineOf numbers = allInColumns numbers ++ (lineFeed ∷ [])
+
+abbrev pub mostColumns : ℕ
+mostColumns = 6
 
 -- a buffer has so many bytes at its front. The second part follows from the first, and spares whoever takes these bytes its proof.
 abbrev pub Front : ℕ → List ℕ → Type 0

@@ -7,11 +7,9 @@ use Rattle.fields.specs.Layout.{mostSegments, mostAges}
 use Rattle.checks.specs.Readable.{Readable}
 use Rattle.line.specs.Line.{lineLength}
 use Rattle.card.specs.Card.{mostBytes}
+use Rattle.text.specs.Columns.{mostColumns}
 
--- the most numbers of a line, and the bytes of such a line
-abbrev pub mostColumns : ℕ
-mostColumns = 6
-
+-- the bytes of the longest line
 abbrev pub mostLine : ℕ
 mostLine = lineLength mostColumns
 

@@ -1,7 +1,7 @@
 // What the report program prints, laid out in a lent buffer: numbers in columns of 14, right-justified behind spaces.
 ghost use lib.ListN.{take};
-ghost use Rattle.text.specs.Columns.{lineOf, Holds};
-ghost use Rattle.text.specs.Conditions.{mostColumns, TextFits, InputFits};
+ghost use Rattle.text.specs.Columns.{lineOf, mostColumns, Holds};
+ghost use Rattle.text.specs.Conditions.{TextFits, InputFits};
 ghost use Rattle.text.specs.Text.{cardText, PrintsAll};
 
 mod answers;

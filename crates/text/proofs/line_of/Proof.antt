@@ -5,7 +5,7 @@ use Prim.Native.Nat.{ℕ, _<_}
 use native.Mathlib.Omega.{arith}
 use lib.ListN.{length, take}
 use lib.Seq.{length-take-le, take-all}
-use Rattle.text.specs.Conditions.{mostColumns}
+use Rattle.text.specs.Columns.{mostColumns}
 use borrow.Author.Needs.{needs}
 use Rattle.text.proofs.line_of.Statement.{statement}
 use Rattle.text.proofs.line_of.Tie as tie
