@@ -148,7 +148,7 @@ add("last line missing", good[:-29])
 add("a space behind a digit", good[:41] + b' ' + good[42:])
 # a count out of range before a column that is no digit, on one line
 add("65 segments and a letter in the count of ages", card(with_(POST, f23=65, f24="x"), ages=AGES))
-# bytes behind the longest good card are one line more, a wrong one, also where a reader's room of 8192 bytes ends within them
+# bytes behind the longest good card are one line more, a wrong one, however many
 for label, more in (("a line feed more", b'\n'), ("a space more", b' '), ("a digit more", b'0'), ("twice", longest)):
     add(f"the longest good card, {label}: {len(longest + more)} bytes", longest + more)
 ROOM = 8192

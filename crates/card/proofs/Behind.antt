@@ -1,21 +1,20 @@
 -- What stands behind more bytes than the longest good card has changes nothing: the lines that are due lie in the bytes in front, and a
 -- byte more than they have is there either way. So whoever has read that many bytes need not read on. Assumes nothing.
-use mathlib.Core.Path.{_≡_, refl, sym, ap, _∙_}
+use mathlib.Core.Path.{_≡_, refl, ap, _∙_}
 use mathlib.Core.Bool.{Bool, true, false, cond}
 use mathlib.Core.List.{List, [], _∷_, _++_}
-use Prim.Native.Nat.{ℕ, zero, suc, _+_, _-_, _*_, _≤_, _<_}
+use Prim.Native.Nat.{ℕ, zero, suc, _+_, _*_, _≤_, _<_}
 use native.Mathlib.Omega.{arith}
-use lib.Dec.{leb, ltb}
-use lib.ListN.{length, getD, take, drop, replicate, length-append, length-drop, List·getD-append}
+use lib.Dec.{ltb}
+use lib.ListN.{length, drop, replicate, length-append, length-drop, List·getD-append}
 use lib.Seq.{take-append-le, drop-append-le}
 use borrow.Author.Tests.{ltb-false, lt-ltb, le-leb}
-use Rattle.fields.specs.Layout.{columns, mostSegments, mostAges, agesOutOfRange, perSegment, perAge}
-use Rattle.fields.specs.Layout.{firstSegmentField}
+use Rattle.fields.specs.Layout.{columns, mostSegments, agesOutOfRange, perSegment, perAge, firstSegmentField}
 use Rattle.fields.proofs.Laws.{ages-in-range}
-use Rattle.line.specs.Line.{lineLength, amountOf, fieldOf, amountsOf, isShaped, isRight, lineNumbers}
+use Rattle.line.specs.Line.{lineLength, amountsOf, isShaped, isRight}
 use Rattle.card.specs.Card.{Lines, readLines, bytesOn, headLines, head, announcedLines, firstSegmentLine, lineBehind}
 use Rattle.card.specs.Card.{announcedOf, segmentsIn, agesIn, announced, mostBytes, firstWrong, cardOutcome}
-use Rattle.card.proofs.Lines.{Right, lines-right, bytes-append}
+use Rattle.card.proofs.Lines.{lines-right, bytes-append}
 use Rattle.card.proofs.Outcome.{bytes-replicate}
 
 module _ (back : List ℕ) where

@@ -21,14 +21,16 @@ use line::COLUMNS;
 
 const HEAD_LINES: usize = 4;
 
-// The bytes of lines 1 to 4, each with its line feed. The first line of a segment, and its first field.
+// The bytes of lines 1 to 4, of a segment's line and of an age's, each with its line feed; and of the longest good card.
 const HEAD_BYTES: usize = COLUMNS * HEAD_FIELDS + HEAD_LINES;
 
-// The bytes of the longest good card.
-pub const MOST_BYTES: usize = HEAD_BYTES
-    + (COLUMNS * PER_SEGMENT + 1) * MOST_SEGMENTS
-    + (COLUMNS * PER_AGE + 1) * MOST_AGES;
+const SEGMENT_BYTES: usize = COLUMNS * PER_SEGMENT + 1;
 
+const AGE_BYTES: usize = COLUMNS * PER_AGE + 1;
+
+pub const MOST_BYTES: usize = HEAD_BYTES + SEGMENT_BYTES * MOST_SEGMENTS + AGE_BYTES * MOST_AGES;
+
+// The first line of a segment, and its first field.
 const SEGMENT_LINE: usize = HEAD_LINES + 1;
 
 const SEGMENT_FIELD: usize = HEAD_FIELDS + 1;
@@ -73,7 +75,7 @@ fn read_announced(part: &[u8], segments: usize, ages: usize, fields: &mut [u64])
     if 0 < wrong {
         return wrong;
     }
-    let at = (COLUMNS * PER_SEGMENT + 1) * segments;
+    let at = SEGMENT_BYTES * segments;
     let line = SEGMENT_LINE + segments;
     let read = PER_SEGMENT * segments;
     let of_ages = [PER_AGE; MOST_AGES];
@@ -87,7 +89,7 @@ fn read_announced(part: &[u8], segments: usize, ages: usize, fields: &mut [u64])
     if 0 < wrong {
         return wrong;
     }
-    if at + (COLUMNS * PER_AGE + 1) * ages < part.len() {
+    if at + AGE_BYTES * ages < part.len() {
         return line + ages;
     }
     0

@@ -1,6 +1,7 @@
 // A list's answer on standard output.
 ghost use Prim.Native.Nat.{_≤_};
 ghost use Rattle.cases.specs.Sizes.{mostRoom};
+use crate::lists::LINE_FEED;
 use checks::buffers::PER_ROW;
 use fields::layout::MOST_AGES;
 use fields::layout::MOST_FIELDS;
@@ -9,15 +10,13 @@ use fields::refusal::Refusal;
 use libc::STDOUT_FILENO;
 use losses::Answer;
 use stages::BeforeAges;
-use text::MOST_LINE;
+use text::MOST_LINE_BYTES;
 
 // Numbers that a list's report and scratch are lent at most.
 const MOST_ROOM: usize = 4096;
 
-const LINE_FEED: u8 = b'\n';
-
 fn print_numbers(numbers: &[u64]) {
-    let mut line = [0u8; MOST_LINE];
+    let mut line = [0u8; MOST_LINE_BYTES];
     let bytes = text::line_of(numbers, &mut line);
     io::write_all(STDOUT_FILENO, &line[..bytes]);
 }

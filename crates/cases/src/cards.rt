@@ -1,8 +1,8 @@
 // The cards: files 0000.card, 0001.card and so on in the folder cards. Those from 0240 on stand at the edges of document 01's
 // ranges and rules, and edges.txt says which.
 use libc::STDOUT_FILENO;
-use text::MOST_READ;
-use text::MOST_TEXT;
+use text::MOST_READ_BYTES;
+use text::MOST_TEXT_BYTES;
 
 const CARDS: usize = 383;
 
@@ -43,10 +43,10 @@ fn run_card(number: usize) {
         os::fail(b"cards");
         return;
     }
-    let mut card = [0u8; MOST_READ];
+    let mut card = [0u8; MOST_READ_BYTES];
     let read = io::read_full(file, &mut card);
     libc::close(file);
-    let mut text = [0u8; MOST_TEXT];
+    let mut text = [0u8; MOST_TEXT_BYTES];
     let bytes = text::text_of_input(&card, read, &mut text);
     io::write_all(STDOUT_FILENO, &text[..bytes]);
 }

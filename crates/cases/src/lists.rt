@@ -22,7 +22,7 @@ const SPACE: u8 = b' ';
 
 const BAR: u8 = b'|';
 
-const LINE_FEED: u8 = b'\n';
+pub(crate) const LINE_FEED: u8 = b'\n';
 
 // Digits of a double's bits, their base, and the weight of the highest.
 const DIGITS: u64 = 16;

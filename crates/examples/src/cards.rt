@@ -1,8 +1,8 @@
 // The cards: each one's file, and below it what the report program prints for it.
 use crate::print::print_title;
 use libc::STDOUT_FILENO;
-use text::MOST_READ;
-use text::MOST_TEXT;
+use text::MOST_READ_BYTES;
+use text::MOST_TEXT_BYTES;
 
 fn run_card(path: &[u8]) {
     print_title(path);
@@ -11,10 +11,10 @@ fn run_card(path: &[u8]) {
         os::fail(path);
         return;
     }
-    let mut card = [0u8; MOST_READ];
+    let mut card = [0u8; MOST_READ_BYTES];
     let read = io::read_full(file, &mut card);
     libc::close(file);
-    let mut text = [0u8; MOST_TEXT];
+    let mut text = [0u8; MOST_TEXT_BYTES];
     let bytes = text::text_of_input(&card, read, &mut text);
     io::write_all(STDOUT_FILENO, &text[..bytes]);
 }

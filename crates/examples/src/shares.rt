@@ -1,6 +1,7 @@
 // The shares of creep and shrinkage: at each row, an hour after it, half way to the next row and an hour before that; then at the
 // end of the service life and an hour past it.
 ghost use Prim.Native.Nat.{_≤_, _<_};
+ghost use Rattle.logarithm.specs.Logarithm.{serviceLife};
 use crate::print::print_numbers;
 use crate::print::print_title;
 use coefficient::clocks::HoursSinceCuring;
@@ -34,7 +35,7 @@ fn print_share(share: Share, hour: u32) {
 
 // From one row's hour up to the next row's.
 fn print_between(share: Share, low: u32, high: u32)
-    requires { ⌜ (low < high) × (high ≤ 438000) ⌝ }
+    requires { ⌜ (low < high) × (high ≤ serviceLife) ⌝ }
 {
     print_share(share, low);
     print_share(share, low + 1);

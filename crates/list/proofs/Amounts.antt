@@ -13,8 +13,8 @@ use borrow.Author.Tests.{lt-ltb, le-ltb, le-leb, lt-leb}
 use Rattle.ticks.specs.declared.Amount.{Amount}
 use Rattle.ticks.specs.declared.Amount.the-variants.{Refused}
 use Rattle.fields.specs.Layout.{headFields, perSegment, firstSegmentField, firstAgeField}
-use Rattle.list.specs.Lists.{inTicks, headInTicks, segmentInTicks, ageInTicks, amountIn, amountOf, amountsOf}
-use Rattle.list.specs.Measures.{amountsBy, headAmounts, segmentsAmounts, agesAmounts}
+use Rattle.list.specs.Lists.{inTicks, headInTicks, segmentInTicks, ageInTicks, amountIn, amountsBy, amountsOf}
+use Rattle.list.specs.Measures.{headAmounts, segmentsAmounts, agesAmounts}
 
 -- ---- of a part
 
@@ -64,21 +64,6 @@ alike ticks kept field past (x ∷ xs) same =
         let f : past + suc k ≡ suc past + k = omega arith in
         rw (e, f) at (same (suc k) (omega arith))
 
--- ---- of a list
-
-of-list : (segments field : ℕ) (xs : List Float) → amountsOf segments field xs ≡ amountsBy (inTicks segments) field xs
-unfolding amountsOf amountsBy
-of-list segments field [] = refl
-of-list segments field (x ∷ xs) = ap (λ (l : List Amount). amountOf segments field x ∷ l) (of-list segments (suc field) xs)
-
-pub amounts-length : (segments field : ℕ) (xs : List Float) → length (amountsOf segments field xs) ≡ length xs
-amounts-length segments field xs = ap length (of-list segments field xs) ∙ part-length (inTicks segments) field xs
-
-pub amounts-at : (segments field : ℕ) (xs : List Float) (k : ℕ) → k < length xs
-    → getD (amountsOf segments field xs) k Refused ≡ amountOf segments (field + k) (getD xs k nan)
-amounts-at segments field xs k h =
-    ap (λ (l : List Amount). getD l k Refused) (of-list segments field xs) ∙ part-at (inTicks segments) field xs k h
-
 -- ---- by its parts
 
 module _ (segments : ℕ) where
@@ -104,8 +89,7 @@ module _ (segments : ℕ) where
     by-parts =
         let place : 1 + length head ≡ firstSegmentField = omega arith in
         let behind : 1 + length (head ++ part) ≡ firstAgeField segments = simp length-append (omega arith) in
-        of-list segments 1 ((head ++ part) ++ ages)
-        ∙ part-append (inTicks segments) 1 (head ++ part) ages
+        part-append (inTicks segments) 1 (head ++ part) ages
         ∙ rw (
           behind,
           part-append (inTicks segments) 1 head part,

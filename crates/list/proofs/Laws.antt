@@ -19,9 +19,9 @@ use Rattle.fields.specs.declared.refusal.Reading.the-variants.{Fields, Not}
 use Rattle.fields.specs.declared.refusal.Refusal.{Refusal}
 use Rattle.fields.specs.Layout.{segmentsField, agesField, headFields}
 use Rattle.fields.specs.Amounts.{numbersIn, allRead, refused, accepted}
-use Rattle.list.specs.Lists.{inTicks, amountIn, amountOf, amountsOf, withCounts, countsIn, listOutcome}
+use Rattle.list.specs.Lists.{inTicks, amountIn, amountsBy, amountsOf, withCounts, countsIn, listOutcome}
 use Rattle.fields.proofs.Accepted.{Accepted}
-use Rattle.list.proofs.Amounts.{amounts-length, amounts-at}
+use Rattle.list.proofs.Amounts.{part-length, part-at}
 use Rattle.list.proofs.Counting.{Counted, counts-accepted, no-fields}
 
 -- ---- how large a number can be
@@ -38,10 +38,10 @@ first-below ticks x (Of n) amounts e others (suc k) = others k
 first-below ticks x Refused amounts e others k = lit< tt
 
 below : (segments field : ℕ) (xs : List Float) (k : ℕ) → getD (numbersIn (amountsOf segments field xs)) k 0 < 2 ^ 41
-unfolding numbersIn amountsOf
+unfolding numbersIn amountsBy
 below segments field [] k = lit< tt
 below segments field (x ∷ xs) k =
-    first-below (inTicks segments field) x (amountOf segments field x) (amountsOf segments (suc field) xs) refl
+    first-below (inTicks segments field) x (amountIn (inTicks segments field) x) (amountsOf segments (suc field) xs) refl
     (λ k. below segments (suc field) xs k) k
 
 -- both ways out of row "doubles" have the same numbers
@@ -80,13 +80,13 @@ module _ (list : List Float) (s n : ℕ) (counted : Counted list s n) (all : all
   numbers = numbersIn (amountsOf s 1 list)
 
   -- a field of the head that is whole has its own number
-  number-is : (k count : ℕ) → k < headFields → amountOf s (1 + k) (getD list k nan) ≡ Of count → getD numbers k 0 ≡ count
+  number-is : (k count : ℕ) → k < headFields → amountIn (inTicks s (1 + k)) (getD list k nan) ≡ Of count → getD numbers k 0 ≡ count
   number-is k count h e =
-      let amounts = amounts-length s 1 list in
+      let amounts = part-length (inTicks s) 1 list in
       let enough = counted .segments .enough in
       let read = eqb-true (length numbers) (length (amountsOf s 1 list)) all in
       let at = number-at (amountsOf s 1 list) k read (omega arith) in
-      let is = amounts-at s 1 list k (omega arith) in
+      let is = part-at (inTicks s) 1 list k (omega arith) in
       cc
 
   accepted-numbers : Accepted numbers s n
@@ -95,7 +95,7 @@ module _ (list : List Float) (s n : ℕ) (counted : Counted list s n) (all : all
         few-segments = counted .segments .most;
         enough-ages = counted .ages .least;
         few-ages = counted .ages .most;
-        count = eqb-true (length numbers) (length (amountsOf s 1 list)) all ∙ amounts-length s 1 list ∙ counted .shape;
+        count = eqb-true (length numbers) (length (amountsOf s 1 list)) all ∙ part-length (inTicks s) 1 list ∙ counted .shape;
         segments-field = number-is (segmentsField - 1) s (lit< tt) (counted .segments .are);
         ages-field = number-is (agesField - 1) n (lit< tt) (counted .ages .are);
         below = λ k. let small = below s 1 list k in omega arith;

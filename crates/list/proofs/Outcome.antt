@@ -14,8 +14,8 @@ use Rattle.fields.specs.declared.refusal.Refusal.{Refusal}
 use Rattle.fields.specs.declared.refusal.Refusal.the-variants.{Doubles}
 use Rattle.fields.specs.Layout.{mostFields, headFields, perSegment}
 use Rattle.fields.specs.Amounts.{numbersIn, over}
-use Rattle.list.specs.Lists.{amountsOf, Written, countsIn, listOutcome}
-use Rattle.list.proofs.Amounts.{amounts-length}
+use Rattle.list.specs.Lists.{inTicks, amountsOf, Written, countsIn, listOutcome}
+use Rattle.list.proofs.Amounts.{part-length}
 use Rattle.list.proofs.Numbers.{numbers-within}
 use Rattle.list.proofs.Counting.{counts-accepted}
 
@@ -40,7 +40,7 @@ module _ (list : List Float) (old after : List ℕ) {reading : Reading} {s n rea
   unfolding listOutcome
   field-refused h =
       let count = written .0 in
-      let amounts = amounts-length s 1 list in
+      let amounts = part-length (inTicks s) 1 list in
       rw (← counts, e, ne-eqb (length (numbersIn (amountsOf s 1 list))) (length (amountsOf s 1 list)) (λ all. omega arith))
       (ap (λ (k : ℕ). Not (Doubles k)) (add-one read ∙ ap suc count), written .1)
 
@@ -48,7 +48,7 @@ module _ (list : List Float) (old after : List ℕ) {reading : Reading} {s n rea
   unfolding listOutcome
   fields-read h =
       let count = written .0 in
-      let amounts = amounts-length s 1 list in
+      let amounts = part-length (inTicks s) 1 list in
       let within = numbers-within (amountsOf s 1 list) in
       rw (← counts, e, eq-eqb (length (numbersIn (amountsOf s 1 list))) (length (amountsOf s 1 list)) (omega arith))
       (refl, written .1)

@@ -10,9 +10,9 @@ use lib.Seq.{take-add, take-all, length-take-le}
 use borrow.Rule.Slice.PartMut.{midOf, putMid}
 use Rattle.ticks.specs.declared.Amount.{Amount}
 use Rattle.fields.specs.Layout.{headFields, perSegment}
-use Rattle.list.specs.Lists.{headInTicks, segmentInTicks, amountsOf, Written}
+use Rattle.list.specs.Lists.{inTicks, headInTicks, segmentInTicks, amountsOf, Written}
 use Rattle.list.specs.Measures.{headAmounts, segmentsAmounts, agesAmounts}
-use Rattle.list.proofs.Amounts.{part-length, amounts-length, by-parts}
+use Rattle.list.proofs.Amounts.{part-length, by-parts}
 use Rattle.list.proofs.Numbers.{count-within, cut, joined}
 
 -- where the ages begin, and the doubles of the head, of the segments and of the ages
@@ -100,6 +100,6 @@ module _ (list : List Float) (segments : ℕ) (enough : firstAge segments ≤ le
 
     pub age-within : Written (amountsOf segments 1 list) old now read → read ≤ length list
     age-within w =
-        let count = amounts-length segments 1 list in
+        let count = part-length (inTicks segments) 1 list in
         let within = count-within (amountsOf segments 1 list) old w in
         omega arith

@@ -20,8 +20,8 @@ use Rattle.list.specs.declared.Segment.the-variants.{Straight, Parabola,
 use Rattle.list.specs.declared.Entry.{Entry}
 use Rattle.list.specs.declared.Entry.the-variants.{Listed, Unlisted}
 use Rattle.list.specs.declared.SegmentAmounts.{SegmentAmounts}
-use Rattle.list.specs.Lists.{ticksIn, wholeIn, segmentInTicks, Written}
-use Rattle.list.specs.Measures.{is, isStraight, isParabola, isBend, entryOf, amountsOfEntry, inOrder, amountsBy, segmentsAmounts}
+use Rattle.list.specs.Lists.{ticksIn, wholeIn, segmentInTicks, Written, amountsBy}
+use Rattle.list.specs.Measures.{is, isStraight, isParabola, isBend, entryOf, amountsOfEntry, inOrder, segmentsAmounts}
 use Rattle.list.proofs.Amounts.{part-length, part-append}
 use Rattle.list.proofs.Numbers.{count-within, kept, cut, joined}
 

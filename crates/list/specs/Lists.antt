@@ -47,13 +47,14 @@ inTicks segments field =
     (cond (ltb field (firstAgeField segments)) (segmentInTicks (field - firstSegmentField))
     (ageInTicks (field - firstAgeField segments)))
 
-abbrev pub amountOf : ℕ → ℕ → Float → Amount
-amountOf segments field x = amountIn (inTicks segments field) x
+-- some fields, the first of them numbered `field`, by which of them are kept in ticks
+unfoldable pub amountsBy : (ℕ → Bool) → ℕ → List Float → List Amount
+amountsBy inTicks field [] = []
+amountsBy inTicks field (x ∷ xs) = amountIn (inTicks field) x ∷ amountsBy inTicks (suc field) xs
 
--- the fields of a list, the first of them numbered `field`
-unfoldable pub amountsOf : ℕ → ℕ → List Float → List Amount
-amountsOf segments field [] = []
-amountsOf segments field (x ∷ xs) = amountOf segments field x ∷ amountsOf segments (suc field) xs
+-- the fields of a list with so many segments, the first of them numbered `field`
+abbrev pub amountsOf : ℕ → ℕ → List Float → List Amount
+amountsOf segments field list = amountsBy (inTicks segments) field list
 
 -- a buffer into which such fields were read, up to the first that is refused, and how many these are
 abbrev pub Written : List Amount → List ℕ → List ℕ → ℕ → Type 0
@@ -95,5 +96,5 @@ withCounts (Not refusal) list = refused refusal []
 
 -- What a list gives.
 unfoldable pub listOutcome : List Float → Outcome
-unfolding amountsOf countsIn
+unfolding amountsBy countsIn
 listOutcome list = withCounts (countsIn list) list

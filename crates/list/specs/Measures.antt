@@ -1,6 +1,6 @@
 -- What the doubles of a section and of a segment pass through on their way: document 01, "The section's five measures and each segment
 -- arrive as doubles." And the parts in which a list is read. What a list gives does not depend on any of it. Assumes nothing.
-use Prim.Native.Nat.{ℕ, suc}
+use Prim.Native.Nat.{ℕ}
 use mathlib.Core.Bool.{Bool, false, _&&_, cond}
 use mathlib.Core.List.{List, [], _∷_}
 use lib.Dec.{eqb}
@@ -13,7 +13,7 @@ use Rattle.list.specs.declared.Segment.the-variants.{Straight, Parabola,
 use Rattle.list.specs.declared.Entry.{Entry}
 use Rattle.list.specs.declared.Entry.the-variants.{Listed, Unlisted}
 use Rattle.list.specs.declared.SegmentAmounts.{SegmentAmounts}
-use Rattle.list.specs.Lists.{ticksIn, wholeIn, amountIn, headInTicks, segmentInTicks, ageInTicks, fieldIn}
+use Rattle.list.specs.Lists.{ticksIn, wholeIn, headInTicks, segmentInTicks, ageInTicks, amountsBy, fieldIn}
 
 -- ---- the section
 
@@ -71,11 +71,6 @@ abbrev pub inOrder : SegmentAmounts → List Amount
 inOrder amounts = amounts .kind ∷ amounts .length ∷ amounts .rise ∷ []
 
 -- ---- the parts of a list
-
--- the fields of a part, numbered from `field` on as `inTicks` counts them
-unfoldable pub amountsBy : (ℕ → Bool) → ℕ → List Float → List Amount
-amountsBy inTicks field [] = []
-amountsBy inTicks field (x ∷ xs) = amountIn (inTicks field) x ∷ amountsBy inTicks (suc field) xs
 
 abbrev pub headAmounts : List Float → List Amount
 headAmounts head = amountsBy headInTicks 1 head

@@ -16,18 +16,19 @@ use Rattle.checks.specs.Readable.{Readable}
 use Rattle.member.specs.Member.{memberOf, checkedOf}
 use Rattle.member.specs.Facts.{RisingFrom, rises, MomentsWithin, adds, Facts}
 use Rattle.member.proofs.Laws.{accepted}
+use Rattle.steps.specs.Conditions.{creepLimit, shrinkageLimit}
 use Rattle.stages.specs.Conditions.{Bounded, AgesBounded}
 use Rattle.losses.specs.Conditions.{Runnable}
 
 -- U at the most of its three coefficients
 creep-fits : (cure : Cure) (concrete : Concrete) (ec volumeToSurface transfer : ℕ)
-    → wholeCreep cure concrete ec volumeToSurface transfer < 2 ^ 31
+    → wholeCreep cure concrete ec volumeToSurface transfer < creepLimit
 creep-fits cure concrete ec volumeToSurface transfer =
     let most =
     mul-le-mul (mul-le-mul (ucr-range cure concrete ec .1) (scf-range volumeToSurface .1)) (mcf-range cure transfer .1) in
     omega arith
 
-shrinkage-fits : (concrete : Concrete) (ec volumeToSurface : ℕ) → wholeShrinkage concrete ec volumeToSurface < 2 ^ 26
+shrinkage-fits : (concrete : Concrete) (ec volumeToSurface : ℕ) → wholeShrinkage concrete ec volumeToSurface < shrinkageLimit
 shrinkage-fits concrete ec volumeToSurface =
     let most = mul-le-mul (ush-range concrete ec .1) (ssf-range volumeToSurface .1) in
     omega arith

@@ -14,7 +14,7 @@ use Rattle.fields.specs.Amounts.{over}
 use Rattle.fields.proofs.Buffers.{length-over, written-behind}
 use Rattle.member.specs.declared.Member.{Member}
 use Rattle.fields.specs.Quantities.{Age, agesFrom, agesOf}
-use Rattle.checks.specs.Rows.{perRow}
+use Rattle.checks.specs.Rows.{perRow, mostMoment}
 use Rattle.steps.specs.Conditions.{stressLimit}
 use Rattle.stages.specs.declared.Stress.{Stress}
 use Rattle.stages.specs.declared.Stress.the-variants.{Left, Gone}
@@ -140,7 +140,7 @@ module _ {m : Member} {fields : List ℕ} {first : ℕ} {old scratch : List ℕ}
     pub age-bounded : AgesBounded (p .from .moments) (age ∷ agesLeft m fields (field + perAge) (number + 1))
     age-bounded = rw (next-age m fields field number more) at (p .ages-bounded)
 
-    pub moments-fit : start .moments + getD fields (field + 1) 0 ≤ 2 ^ 40
+    pub moments-fit : start .moments + getD fields (field + 1) 0 ≤ mostMoment
     moments-fit = rw (p .start-is) (age-bounded .1 .0)
 
     pub hour-fits : getD fields field 0 < 2 ^ 32

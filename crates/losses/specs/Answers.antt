@@ -24,7 +24,7 @@ use Rattle.losses.specs.declared.Answer.the-variants.{Accepted as Accept
 abbrev pub IsExactly : Float → ℕ → Type 0
 IsExactly double ticks = HasValue double false ticks ticksPerUnit
 
--- one such double: so many times 2 ^ -10. All of them have the same bits (law `same-bits`).
+-- one such double: so many times 2 ^ -10, `negsuc 9` being -10. All of them have the same bits (law `same-bits`).
 abbrev pub doubleOf : ℕ → Float
 doubleOf ticks = fin false ticks (negsuc 9)
 

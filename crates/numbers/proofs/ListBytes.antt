@@ -27,7 +27,7 @@ use Rattle.fields.specs.Amounts.{refused as notRead}
 use Rattle.fields.proofs.Accepted.{Accepted}
 use Rattle.fields.proofs.Laws.{ages-in-range}
 use Rattle.list.proofs.Laws.{list-accepted}
-use Rattle.list.specs.Lists.{amountIn, inTicks, amountsOf, withCount, countIn, countsIn, withCounts, listOutcome}
+use Rattle.list.specs.Lists.{amountIn, inTicks, amountsOf, withCount, countIn, countsIn, withCounts, listOutcome, amountsBy}
 use Rattle.numbers.specs.Numbers.{room, numbersFrom, doublesOf, bytesOutcome}
 use Rattle.numbers.specs.Parts.{standsFor, mostDoubles}
 
@@ -59,7 +59,7 @@ same-count (bits ∷ numbers) (suc k) = same-count numbers k
 
 same-amounts : (segments field : ℕ) (numbers : List ℕ)
     → amountsOf segments field (map standsFor numbers) ≡ amountsOf segments field (map (ofBits binary64) numbers)
-unfolding amountsOf
+unfolding amountsBy
 same-amounts segments field [] = refl
 same-amounts segments field (bits ∷ numbers) =
     rw (same-amount (inTicks segments field) bits, same-amounts segments (suc field) numbers)

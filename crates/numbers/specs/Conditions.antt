@@ -3,5 +3,5 @@ use Prim.Native.Nat.{ℕ, _*_, _≤_}
 use Rattle.ticks.specs.Numbers.{bytesPerNumber}
 
 -- so many bytes hold so many numbers
-pub record Holds (bytes numbers : ℕ) : Type 0 where
+pub record NumbersFit (bytes numbers : ℕ) : Type 0 where
   pub room : bytesPerNumber * numbers ≤ bytes

@@ -7,7 +7,7 @@ ghost use Rattle.fields.specs.Amounts.{over};
 ghost use Rattle.list.specs.Lists.{listOutcome};
 ghost use Rattle.numbers.specs.Numbers.{room, written, numbersFrom, doublesOf, bytesOutcome};
 ghost use Rattle.numbers.specs.Parts.{standsFor, mostDoubles};
-ghost use Rattle.numbers.specs.Conditions.{Holds};
+ghost use Rattle.numbers.specs.Conditions.{NumbersFit};
 use fields::layout::MOST_FIELDS;
 use fields::refusal::Reading;
 use fields::refusal::Refusal;
@@ -33,7 +33,7 @@ pub fn room_up_to(most: usize, bytes: usize) -> usize
 
 // Some numbers' bytes at the front of a buffer.
 pub fn write_numbers(numbers: &[u64], buffer: &mut [u8])
-    requires { ⌜ Holds (length (now buffer)) (length (now numbers)) ⌝ }
+    requires { ⌜ NumbersFit (length (now buffer)) (length (now numbers)) ⌝ }
     ensures { λ _. ⌜ now (buffer .exit) ≡ written (now (numbers .entry)) (now (buffer .entry)) ⌝ }
 {
     let mut done = 0usize;
@@ -57,7 +57,7 @@ fn double_of(bits: u64) -> f64
 
 // The doubles that the first bytes of a list hold.
 fn read_doubles(list: &[u8], doubles: &mut [f64])
-    requires { ⌜ Holds (length (now list)) (length (now doubles)) ⌝ }
+    requires { ⌜ NumbersFit (length (now list)) (length (now doubles)) ⌝ }
     ensures { λ _. ⌜ now (doubles .exit) ≡ map standsFor (numbersFrom (length (now (doubles .entry))) (now (list .entry))) ⌝ }
 {
     let mut read = 0usize;

@@ -15,12 +15,14 @@ use Rattle.member.specs.Friction.{pathFriction}
 use Rattle.checks.specs.Rows.{firstFailing, segmentCodes, rangesOfSegments, rangesOfMoments, hoursOfAges}
 use Rattle.member.specs.Member.{checkedOf}
 use Rattle.stages.specs.Run.{memberResult}
-use Rattle.readings.specs.Readings.{Marked, cardText, fieldsOf, hourly, numberAndPlace, resultOfCard, withAges}
+use Rattle.text.specs.Columns.{firstColumns}
+use Rattle.text.specs.Text.{agesText, reportText}
+use Rattle.readings.specs.Readings.{Marked, linesOf, fieldsOf, hourly, numberAndPlace, resultOfCard, withAges}
 use Rattle.readings.specs.Readings.{double0153, halfApart}
 
 -- what opens every definition that a reading is computed by
 unfoldable computed : Unit {0}
-unfolding cardText fieldsOf hourly cardOutcome digitsOf spacesIn numbersIn segmentsFrom agesFrom checkedOf firstFailing
+unfolding firstColumns agesText reportText linesOf fieldsOf hourly cardOutcome digitsOf spacesIn numbersIn segmentsFrom agesFrom checkedOf firstFailing
     segmentCodes rangesOfSegments rangesOfMoments hoursOfAges memberResult logarithm scf ssf mcf ucr ush creepShare shrinkageShare
     pathFriction ticksOf magnitude
 computed = tt
@@ -36,6 +38,7 @@ marked = record {
   sample-fields = refl;
   sample-ages = refl;
   sample-result = refl;
+  sample-printed = refl;
   L1 = refl;
   L2 = refl;
   L9 = refl;

@@ -1,10 +1,8 @@
 -- The readings that document 01 marks ★, and its edges, in the order of its "Sample beam": one list of what the definitions of the
 -- other crates give, to be held beside the paper. Assumes nothing.
-use Prim.Native.Nat.{ℕ, zero, suc, _+_, _-_, _*_, _/_, _%_, _^_, _≤_}
-use mathlib.Core.Bool.{cond}
+use Prim.Native.Nat.{ℕ, zero, suc, _+_, _*_, _^_, _≤_}
 use mathlib.Core.List.{List, [], _∷_, _++_}
 use mathlib.Core.Path.{_≡_}
-use lib.Dec.{eqb}
 use Rattle.ticks.specs.declared.Amount.the-variants.{Of}
 use Rattle.ticks.specs.Doubles.{ticksOf, magnitude, one}
 use Rattle.logarithm.specs.Logarithm.{logarithm}
@@ -12,8 +10,6 @@ use Rattle.coefficient.specs.declared.codes.Cure.the-variants.{Moist}
 use Rattle.coefficient.specs.declared.clocks.HoursSinceTransfer.{HoursSinceTransfer}
 use Rattle.coefficient.specs.Coefficients.{scf, mcf, creepShare}
 use Rattle.fields.specs.Amounts.{accepted}
-use Rattle.fields.specs.Layout.{columns}
-use Rattle.line.specs.Line.{space, lineFeed}
 use Rattle.card.specs.Card.{cardOutcome}
 use Rattle.fields.specs.Refusals.{number, place}
 use Rattle.fields.specs.Quantities.{Segment, Age, agesOf}
@@ -21,29 +17,15 @@ use Rattle.member.specs.Friction.{pathFriction, parabola}
 use Rattle.member.specs.Member.{frictionOf}
 use Rattle.stages.specs.Run.{Result, reported, refused}
 use Rattle.losses.specs.Promise.{resultOf}
+use Rattle.text.specs.Columns.{allInColumns, lineOf}
+use Rattle.text.specs.Text.{reportText}
 
 -- ---- the text of a card: "Lines of 14-column fields, decimal digits right-justified behind spaces, each line ended by a line feed."
 
-abbrev pub digit : ℕ → ℕ
-digit n = 48 + n
-
--- so many columns with what stands before a number's last digit: its further digits, behind spaces
-unfoldable pub columnsBefore : ℕ → ℕ → List ℕ
-columnsBefore zero rest = []
-columnsBefore (suc count) rest = columnsBefore count (rest / 10) ++ (cond (eqb rest 0) space (digit (rest % 10)) ∷ [])
-
-abbrev pub fieldText : ℕ → List ℕ
-fieldText n = columnsBefore (columns - 1) (n / 10) ++ (digit (n % 10) ∷ [])
-
-unfoldable pub lineText : List ℕ → List ℕ
-unfolding columnsBefore
-lineText [] = lineFeed ∷ []
-lineText (n ∷ numbers) = fieldText n ++ lineText numbers
-
-unfoldable pub cardText : List (List ℕ) → List ℕ
-unfolding lineText
-cardText [] = []
-cardText (line ∷ lines) = lineText line ++ cardText lines
+unfoldable pub linesOf : List (List ℕ) → List ℕ
+unfolding allInColumns
+linesOf [] = []
+linesOf (line ∷ lines) = lineOf line ++ linesOf lines
 
 -- ---- the sample's card
 
@@ -68,7 +50,7 @@ abbrev pub sampleLines : List (List ℕ)
 sampleLines = line1 ∷ line2 3072 ∷ line3 ∷ line4 0 0 0 3 ∷ ageLines
 
 abbrev pub sample : List ℕ
-sample = cardText sampleLines
+sample = linesOf sampleLines
 
 -- the fields of some lines, in order
 unfoldable pub fieldsOf : List (List ℕ) → List ℕ
@@ -78,12 +60,12 @@ fieldsOf (line ∷ lines) = line ++ fieldsOf lines
 -- ---- the cards of the edges
 
 abbrev pub withVolumeToSurface : ℕ → List ℕ
-withVolumeToSurface volumeToSurface = cardText (line1 ∷ line2 volumeToSurface ∷ line3 ∷ line4 0 0 0 3 ∷ ageLines)
+withVolumeToSurface volumeToSurface = linesOf (line1 ∷ line2 volumeToSurface ∷ line3 ∷ line4 0 0 0 3 ∷ ageLines)
 
 -- wobble 1, curvature 150,000, a bend of 2 radians and a straight segment of this length
 abbrev pub withDuct : ℕ → List ℕ
 withDuct straight =
-    cardText (line1 ∷ line2 3072 ∷ line3 ∷ line4 1 150000 2 3 ∷ (3 ∷ 0 ∷ 2048 ∷ []) ∷ (1 ∷ straight ∷ 0 ∷ []) ∷ ageLines)
+    linesOf (line1 ∷ line2 3072 ∷ line3 ∷ line4 1 150000 2 3 ∷ (3 ∷ 0 ∷ 2048 ∷ []) ∷ (1 ∷ straight ∷ 0 ∷ []) ∷ ageLines)
 
 -- so many ages, an hour apart, from this hour on
 unfoldable pub hourly : ℕ → ℕ → List (List ℕ)
@@ -92,7 +74,7 @@ hourly (suc count) hour = (hour ∷ 0 ∷ []) ∷ hourly count (suc hour)
 
 -- the 65th would still be within the service life
 abbrev pub withAges : ℕ → List ℕ
-withAges count = cardText (line1 ∷ line2 3072 ∷ line3 ∷ line4 0 0 0 count ∷ hourly count 437936)
+withAges count = linesOf (line1 ∷ line2 3072 ∷ line3 ∷ line4 0 0 0 count ∷ hourly count 437936)
 
 -- ---- what a card gives
 
@@ -136,7 +118,7 @@ parabolaOf length rise = record { kind = parabola; length = length; rise = rise 
 -- ---- the list
 
 pub record Marked : Type 0 where
-  -- "this sample": the fields of its text, its ages (the first, the second, the third), and what it gives
+  -- "this sample": the fields of its text, its ages (the first, the second, the third), what it gives, and what is printed for it
   pub sample-fields : cardOutcome sample ≡ accepted 0 3 (fieldsOf sampleLines)
   pub sample-ages : agesOf 0 3 (cardOutcome sample .numbers) ≡ age 744 0 ∷ age 8784 0 ∷ age 438000 0 ∷ []
   pub sample-result : resultOfCard sample 12 ≡ reported
@@ -145,6 +127,12 @@ pub record Marked : Type 0 where
       ++ (row 3074075 5812223 572430 95967438
       ++ row 1865515 1849344 815347 91437232))
       91437232
+  pub sample-printed : reportText sample ≡ linesOf
+      ((0 ∷ 0 ∷ 0 ∷ 0 ∷ 7228235 ∷ 115651765 ∷ [])
+      ∷ (1 ∷ 744 ∷ row 3026370 5548031 1651198 105426166)
+      ∷ (2 ∷ 8784 ∷ row 3074075 5812223 572430 95967438)
+      ∷ (3 ∷ 438000 ∷ row 1865515 1849344 815347 91437232)
+      ∷ [])
   -- "L(1)=0, L(2)=77, L(9)=244, L(10)=256, L(18)=321, L(720)=731"
   pub L1 : logarithm 1 ≡ 0
   pub L2 : logarithm 2 ≡ 77

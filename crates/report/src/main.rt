@@ -2,13 +2,13 @@
 use libc::STDERR_FILENO;
 use libc::STDIN_FILENO;
 use libc::STDOUT_FILENO;
-use text::MOST_READ;
-use text::MOST_TEXT;
+use text::MOST_READ_BYTES;
+use text::MOST_TEXT_BYTES;
 
 fn main() {
-    let mut input = [0u8; MOST_READ];
+    let mut input = [0u8; MOST_READ_BYTES];
     let read = io::read_full(STDIN_FILENO, &mut input);
-    let mut text = [0u8; MOST_TEXT];
+    let mut text = [0u8; MOST_TEXT_BYTES];
     let bytes = text::text_of_input(&input, read, &mut text);
     if !io::write_all(STDOUT_FILENO, &text[..bytes]) {
         io::write_all(

@@ -13,14 +13,15 @@ use Rattle.fields.specs.Amounts.{over}
 use Rattle.fields.proofs.Buffers.{length-over, written-behind}
 use Rattle.line.specs.Line.{lineFeed, lineLength}
 use Rattle.text.specs.Columns.{digitOrSpace, firstColumns, inColumns, allInColumns, lineOf, Holds}
+use Rattle.text.specs.Conditions.{Counted}
 
 -- a text that a buffer begins with lies within it
-pub holding : {text : List ℕ} {bytes : ℕ} {buffer old : List ℕ} → bytes ≡ length text → buffer ≡ over text old
-    → Holds text bytes buffer old
-holding {text} {bytes} {buffer} {old} count is =
-    let whole = ap length is ∙ length-append text (drop (length text) old) in
+pub counted : {text : List ℕ} {bytes : ℕ} {buffer old : List ℕ} → Holds text bytes buffer old → Counted bytes buffer
+counted {text} {bytes} {buffer} {old} holds =
+    let bytes-are = holds .bytes-are in
+    let whole = ap length (holds .buffer-is) ∙ length-append text (drop (length text) old) in
     let within : bytes ≤ length buffer = omega arith in
-    record { bytes-are = count; buffer-is = is; fits = (within, sym (length-take-le bytes buffer within)) }
+    (within, sym (length-take-le bytes buffer within))
 
 pub columns-length : (column rest : ℕ) → length (firstColumns column rest) ≡ column
 unfolding firstColumns
@@ -148,5 +149,8 @@ module _ {old numbers part : List ℕ} {at done : ℕ} (begun : Begun old number
       let text = allInColumns numbers in
       let first : length text ≡ at = rw whole at front in
       let lengths = length-append text (lineFeed ∷ []) in
-      holding (omega arith)
-      (ap (λ (l : List ℕ). set l at lineFeed) (rw whole at (begun .part-is)) ∙ set-behind text old lineFeed at first (omega arith))
+      record {
+        bytes-are = omega arith;
+        buffer-is = ap (λ (l : List ℕ). set l at lineFeed) (rw whole at (begun .part-is))
+            ∙ set-behind text old lineFeed at first (omega arith);
+      }

@@ -3,7 +3,7 @@
 use mathlib.Core.Path.{_≡_, refl, sym, ap, _∙_}
 use mathlib.Core.Bool.{Bool, true, false}
 use mathlib.Core.List.{List, [], _∷_, _++_, append-assoc, append-nil}
-use Prim.Native.Nat.{ℕ, zero, suc, _+_, _-_, _*_, _≤_, _<_}
+use Prim.Native.Nat.{ℕ, suc, _+_, _-_, _*_, _≤_, _<_}
 use native.Mathlib.Nat.{add-zero}
 use native.Mathlib.Numerals.{add-one, unary-clauses}
 use native.Mathlib.Omega.{arith}
@@ -32,9 +32,9 @@ use Rattle.losses.proofs.Deciding.{refusal-number}
 use Rattle.losses.proofs.Padding.{Same, drop-same, same-ages, over-zeros}
 use Rattle.losses.proofs.Readers.{same-result}
 use Rattle.text.specs.Columns.{lineOf, Holds}
-use Rattle.text.specs.Conditions.{mostLine, AgesFit, RunFits}
-use Rattle.text.specs.Text.{refusalText, beforeText, agesText, resultText, cardText}
-use Rattle.text.proofs.Laying.{holding, line-length}
+use Rattle.text.specs.Conditions.{mostLineBytes, AgesFit, RunFits}
+use Rattle.text.specs.Text.{refusalText, beforeText, agesText, resultText, reportText}
+use Rattle.text.proofs.Laying.{line-length}
 
 -- a text behind another, by way of `&mut buffer[at..]`
 pub holds-then : {first second : List ℕ} {at more : ℕ} {buffer old part : List ℕ} → Holds first at buffer old
@@ -45,7 +45,7 @@ holds-then {first} {second} {at} {more} {buffer} {old} {part} holds behind =
     let both = length-append first second in
     let bytes = holds .bytes-are in
     let more-bytes = behind .bytes-are in
-    holding (omega arith) is
+    record { bytes-are = omega arith; buffer-is = is }
 
 -- ---- the lines of the ages
 
@@ -55,7 +55,7 @@ pub record Lined (fields report old : List ℕ) (segments ages : ℕ) (part : Li
   pub holds : Holds done at part old
   pub same : length part ≡ length old
   pub within : age ≤ ages
-  pub at-is : at ≡ mostLine * age
+  pub at-is : at ≡ mostLineBytes * age
   pub field-is : field ≡ headFields + perSegment * segments + perAge * age
   pub row-is : row ≡ perRow * age
   pub text : done ++ agesText age (agesFrom (ages - age) (drop field fields)) (drop row report)
@@ -65,7 +65,7 @@ pub none-lined : (fields report old : List ℕ) (segments ages : ℕ)
     → Lined fields report old segments ages old 0 (headFields + perSegment * segments) 0 0
 none-lined fields report old segments ages = record {
   done = [];
-  holds = holding refl refl;
+  holds = record { bytes-are = refl; buffer-is = refl };
   same = refl;
   within = omega arith;
   at-is = refl;
@@ -75,13 +75,13 @@ none-lined fields report old segments ages = record {
 }
 
 -- the numbers of an age's line
-abbrev lineNumbers : List ℕ → List ℕ → ℕ → ℕ → ℕ → List ℕ
-lineNumbers fields report field row age =
+abbrev ageNumbers : List ℕ → List ℕ → ℕ → ℕ → ℕ → List ℕ
+ageNumbers fields report field row age =
     age ∷ getD fields field 0 ∷ getD report row 0 ∷ getD report (row + 1) 0 ∷ getD report (row + 2) 0 ∷ getD report (row + 3) 0 ∷ []
 
 next-text : (fields report : List ℕ) (left field row age : ℕ)
     → agesText age (agesFrom (suc left) (drop field fields)) (drop row report)
-    ≡ lineOf (lineNumbers fields report field row (suc age))
+    ≡ lineOf (ageNumbers fields report field row (suc age))
     ++ agesText (suc age) (agesFrom left (drop (field + perAge) fields)) (drop (row + perRow) report)
 unfolding agesText agesFrom
 next-text fields report left field row age =
@@ -103,12 +103,12 @@ no-text fields report age = refl
 
 module _ {fields report old : List ℕ} {segments ages : ℕ} {part : List ℕ} {at field row age : ℕ}
     (lined : Lined fields report old segments ages part at field row age) where
-  pub next-lined : age < ages → mostLine * ages ≤ length old → (more : ℕ) (after : List ℕ)
-      → Holds (lineOf (lineNumbers fields report field row (age + 1))) more after (midOf at (length part - at) part)
+  pub next-lined : age < ages → mostLineBytes * ages ≤ length old → (more : ℕ) (after : List ℕ)
+      → Holds (lineOf (ageNumbers fields report field row (age + 1))) more after (midOf at (length part - at) part)
       → Lined fields report old segments ages (putMid at (length part - at) part after) (at + more) (field + perAge)
       (row + perRow) (age + 1)
   next-lined h room more after written =
-      let numbers = lineNumbers fields report field row (age + 1) in
+      let numbers = ageNumbers fields report field row (age + 1) in
       let both = holds-then (lined .holds) written in
       let of-line = line-length numbers in
       let bytes = written .bytes-are in
@@ -155,17 +155,17 @@ ages-fit {segments} {ages} {at} {fields} {buffer} {old} before fits holds =
 
 -- ---- an answer
 
-ages-text : (number : ℕ) (ages : List Age) (rows others : List ℕ) → Same rows others
-    → agesText number ages rows ≡ agesText number ages others
+ages-text : (passed : ℕ) (ages : List Age) (rows others : List ℕ) → Same rows others
+    → agesText passed ages rows ≡ agesText passed ages others
 unfolding agesText
-ages-text number [] rows others same = refl
-ages-text number (age ∷ ages) rows others same =
+ages-text passed [] rows others same = refl
+ages-text passed (age ∷ ages) rows others same =
     rw (
       same 0,
       same 1,
       same 2,
       same 3,
-      ages-text (suc number) ages (drop perRow rows) (drop perRow others) (drop-same perRow rows others same),
+      ages-text (suc passed) ages (drop perRow rows) (drop perRow others) (drop-same perRow rows others same),
     )
 
 module _ (ages : List Age) {result : Result} {bytes : ℕ} {buffer old : List ℕ} where
@@ -196,14 +196,14 @@ module _ (ages : List Age) {result : Result} {bytes : ℕ} {buffer old : List �
 -- ---- a card
 
 pub refused-card : (card : List ℕ) {refusal : Refusal} → Not refusal ≡ cardOutcome card .reading
-    → refusalText refusal ≡ cardText card
-unfolding cardText
+    → refusalText refusal ≡ reportText card
+unfolding reportText
 refused-card card e = rw (← e)
 
 pub read-card : (card fields : List ℕ) {segments ages : ℕ} → Fields segments ages ≡ cardOutcome card .reading
     → fields ≡ over (cardOutcome card .numbers) (replicate mostFields 0)
-    → resultText (agesOf segments ages fields) (resultOfReading (Fields segments ages) fields mostNumbers mostNumbers) ≡ cardText card
-unfolding cardText
+    → resultText (agesOf segments ages fields) (resultOfReading (Fields segments ages) fields mostNumbers mostNumbers) ≡ reportText card
+unfolding reportText
 read-card card fields {segments} {ages} e is =
     let outcome = cardOutcome card in
     let zeros = over-zeros (outcome .numbers) mostFields in
@@ -216,14 +216,14 @@ read-card card fields {segments} {ages} e is =
 
 -- the first bytes of an input decide its text, where they are more than the longest good card has
 pub input-text : (buffer bytes input : List ℕ) → mostBytes < length buffer → bytes ≡ take (length buffer) input
-    → cardText bytes ≡ cardText input
-unfolding cardText
+    → reportText bytes ≡ reportText input
+unfolding reportText
 input-text buffer bytes input more is = by (ltb (length buffer) (length input)) refl
   where
     first : List ℕ
     first = take (length buffer) input
 
-    by : (longer : Bool) → ltb (length buffer) (length input) ≡ longer → cardText bytes ≡ cardText input
+    by : (longer : Bool) → ltb (length buffer) (length input) ≡ longer → reportText bytes ≡ reportText input
     by true e =
         let long = ltb-true (length buffer) (length input) e in
         let whole : first ++ drop (length buffer) input ≡ input = take-append-drop (length buffer) input in

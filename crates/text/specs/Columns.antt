@@ -1,10 +1,10 @@
 -- Numbers in columns: document 01, "Sample beam", "all in ticks of psi, 14 columns". Assumes nothing.
-use Prim.Native.Nat.{ℕ, zero, suc, _+_, _-_, _/_, _%_, _≤_}
+use Prim.Native.Nat.{ℕ, zero, suc, _+_, _-_, _/_, _%_}
 use mathlib.Core.Path.{_≡_}
 use mathlib.Core.Bool.{_&&_, cond}
 use mathlib.Core.List.{List, [], _∷_, _++_}
 use lib.Dec.{eqb, ltb}
-use lib.ListN.{length, take}
+use lib.ListN.{length}
 use Rattle.fields.specs.Layout.{columns}
 use Rattle.fields.specs.Amounts.{over}
 use Rattle.line.specs.Line.{space, lineFeed}
@@ -36,15 +36,10 @@ allInColumns (number ∷ numbers) = inColumns number ++ allInColumns numbers
 abbrev pub lineOf : List ℕ → List ℕ
 lineOf numbers = allInColumns numbers ++ (lineFeed ∷ [])
 
-abbrev pub mostColumns : ℕ
-mostColumns = 6
-
--- a buffer has so many bytes at its front. The second part follows from the first, and spares whoever takes these bytes its proof.
-abbrev pub Front : ℕ → List ℕ → Type 0
-Front bytes buffer = (bytes ≤ length buffer) × (bytes ≡ length (take bytes buffer))
+abbrev pub mostPerLine : ℕ
+mostPerLine = 6
 
 -- a buffer with a text at its front, as it is and as it was, and how many bytes the text has
 pub record Holds (text : List ℕ) (bytes : ℕ) (buffer was : List ℕ) : Type 0 where
   pub bytes-are : bytes ≡ length text
   pub buffer-is : buffer ≡ over text was
-  pub fits : Front bytes buffer

@@ -1,37 +1,46 @@
--- What the inner functions ask for: room for what they lay out, and fields as a reader leaves them. The public ones ask for nothing.
--- Assumes nothing.
+-- What the inner functions ask for: room for what they lay out, and fields as a reader leaves them; and what whoever takes a text from
+-- its buffer asks. The public functions ask for nothing. It serves the code alone. Assumes nothing.
 use Prim.Native.Nat.{ℕ, _+_, _*_, _≤_, _<_}
 use mathlib.Core.List.{List}
-use lib.ListN.{length}
+use mathlib.Core.Path.{_≡_}
+use lib.ListN.{length, take}
 use Rattle.fields.specs.Layout.{mostSegments, mostAges}
 use Rattle.checks.specs.Readable.{Readable}
 use Rattle.line.specs.Line.{lineLength}
 use Rattle.card.specs.Card.{mostBytes}
-use Rattle.text.specs.Columns.{mostColumns}
+use Rattle.text.specs.Columns.{mostPerLine}
 
 -- the bytes of the longest line
-abbrev pub mostLine : ℕ
-mostLine = lineLength mostColumns
+abbrev pub mostLineBytes : ℕ
+mostLineBytes = lineLength mostPerLine
 
 -- the bytes of the longest text: a line before the ages and one for each
-abbrev pub mostText : ℕ
-mostText = mostLine * (1 + mostAges)
+abbrev pub mostTextBytes : ℕ
+mostTextBytes = mostLineBytes * (1 + mostAges)
 
-abbrev pub LineFits : List ℕ → Type 0
-LineFits part = mostLine ≤ length part
+-- of a part that takes a line, or a whole text
+abbrev pub RoomForLine : List ℕ → Type 0
+RoomForLine part = mostLineBytes ≤ length part
 
-abbrev pub TextFits : List ℕ → Type 0
-TextFits part = mostText ≤ length part
+abbrev pub RoomForText : List ℕ → Type 0
+RoomForText part = mostTextBytes ≤ length part
 
+-- of the counts, and of a part that takes the ages' lines
 pub record AgesFit (segments ages : ℕ) (part : List ℕ) : Type 0 where
   pub segments-most : segments ≤ mostSegments
   pub ages-most : ages ≤ mostAges
-  pub room : mostLine * ages ≤ length part
+  pub room : mostLineBytes * ages ≤ length part
 
+-- of the fields that are run, and of a part that takes what is printed of the run
 pub record RunFits (segments ages : ℕ) (fields part : List ℕ) : Type 0 where
   pub readable : Readable segments ages fields
-  pub room : TextFits part
+  pub room : RoomForText part
 
+-- of a buffer that holds the first bytes of an input, and of a part that takes the input's text
 pub record InputFits (buffer part : List ℕ) : Type 0 where
   pub more : mostBytes < length buffer
-  pub room : TextFits part
+  pub room : RoomForText part
+
+-- so many bytes lie within a buffer. The second part follows from the first; both are stated so that what takes these bytes finds them.
+abbrev pub Counted : ℕ → List ℕ → Type 0
+Counted bytes buffer = (bytes ≤ length buffer) × (bytes ≡ length (take bytes buffer))

@@ -3,7 +3,7 @@ ghost use Rattle.fields.specs.Quantities.{agesOf};
 ghost use Rattle.checks.specs.Rows.{mostNumbers};
 ghost use Rattle.stages.specs.Run.{resultOfReading};
 ghost use Rattle.text.specs.Columns.{Holds};
-ghost use Rattle.text.specs.Conditions.{LineFits, AgesFit, RunFits};
+ghost use Rattle.text.specs.Conditions.{RoomForLine, AgesFit, RunFits};
 ghost use Rattle.text.specs.Text.{refusalText, beforeText, agesText, resultText};
 use crate::columns;
 use checks::buffers::MOST_NUMBERS;
@@ -21,7 +21,7 @@ use stages::BeforeAges;
 
 // A refusal's line.
 pub(crate) fn put_refusal(part: &mut [u8], refusal: Refusal) -> usize
-    requires { ⌜ LineFits (now part) ⌝ }
+    requires { ⌜ RoomForLine (now part) ⌝ }
     ensures { λ r. ⌜ Holds (refusalText refusal) r (now (part .exit)) (now (part .entry)) ⌝ }
 {
     let number = refusal::number_of(refusal);
@@ -31,7 +31,7 @@ pub(crate) fn put_refusal(part: &mut [u8], refusal: Refusal) -> usize
 
 // The line of the losses before the ages and of the stress after them.
 fn put_before(part: &mut [u8], before: BeforeAges) -> usize
-    requires { ⌜ LineFits (now part) ⌝ }
+    requires { ⌜ RoomForLine (now part) ⌝ }
     ensures { λ r. ⌜ Holds (beforeText before) r (now (part .exit)) (now (part .entry)) ⌝ }
 {
     columns::put_line(

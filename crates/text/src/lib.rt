@@ -1,8 +1,8 @@
 // What the report program prints, laid out in a lent buffer: numbers in columns of 14, right-justified behind spaces.
 ghost use lib.ListN.{take};
-ghost use Rattle.text.specs.Columns.{lineOf, mostColumns, Holds};
-ghost use Rattle.text.specs.Conditions.{TextFits, InputFits};
-ghost use Rattle.text.specs.Text.{cardText, PrintsAll};
+ghost use Rattle.text.specs.Columns.{lineOf, mostPerLine, Holds};
+ghost use Rattle.text.specs.Conditions.{RoomForText, InputFits, Counted};
+ghost use Rattle.text.specs.Text.{reportText, PrintsAll};
 
 mod answers;
 mod columns;
@@ -13,30 +13,31 @@ use fields::refusal::Reading;
 use line::COLUMNS;
 
 // The most numbers of a line, and the bytes of such a line.
-const MOST_COLUMNS: usize = 6;
+const MOST_PER_LINE: usize = 6;
 
-pub const MOST_LINE: usize = COLUMNS * MOST_COLUMNS + 1;
+pub const MOST_LINE_BYTES: usize = COLUMNS * MOST_PER_LINE + 1;
 
 // The bytes of the longest text: a line before the ages, and one for each.
-pub const MOST_TEXT: usize = MOST_LINE * (1 + MOST_AGES);
+pub const MOST_TEXT_BYTES: usize = MOST_LINE_BYTES * (1 + MOST_AGES);
 
 // How much of an input decides its text: one byte more than the longest good card has.
-pub const MOST_READ: usize = card::MOST_BYTES + 1;
+pub const MOST_READ_BYTES: usize = card::MOST_BYTES + 1;
 
 // A line of the first six numbers at most; how many bytes it has.
-pub fn line_of(numbers: &[u64], line: &mut [u8; MOST_LINE]) -> usize
-    ensures { λ r. ⌜ Holds (lineOf (take mostColumns (now (numbers .entry)))) r (now (line .exit)) (now (line .entry)) ⌝ }
+pub fn line_of(numbers: &[u64], line: &mut [u8; MOST_LINE_BYTES]) -> usize
+    ensures { λ r. ⌜ Holds (lineOf (take mostPerLine (now (numbers .entry)))) r (now (line .exit)) (now (line .entry)) ⌝ }
+    ensures { λ r. ⌜ Counted r (now (line .exit)) ⌝ }
 {
-    if MOST_COLUMNS < numbers.len() {
-        return columns::put_line(line, &numbers[..MOST_COLUMNS]);
+    if MOST_PER_LINE < numbers.len() {
+        return columns::put_line(line, &numbers[..MOST_PER_LINE]);
     }
     columns::put_line(line, numbers)
 }
 
 // What is printed for a card.
 fn put_card(part: &mut [u8], card: &[u8]) -> usize
-    requires { ⌜ TextFits (now part) ⌝ }
-    ensures { λ r. ⌜ Holds (cardText (now (card .entry))) r (now (part .exit)) (now (part .entry)) ⌝ }
+    requires { ⌜ RoomForText (now part) ⌝ }
+    ensures { λ r. ⌜ Holds (reportText (now (card .entry))) r (now (part .exit)) (now (part .entry)) ⌝ }
 {
     let mut fields = [0u64; MOST_FIELDS];
     match card::read_card(card, &mut fields) {
@@ -58,8 +59,13 @@ fn put_input(part: &mut [u8], buffer: &[u8], read: usize) -> usize
 
 // What is printed for an input that was read into a buffer until that was full or the input ended, so many bytes of it; how many
 // bytes the text has.
-pub fn text_of_input(buffer: &[u8; MOST_READ], read: usize, text: &mut [u8; MOST_TEXT]) -> usize
+pub fn text_of_input(
+    buffer: &[u8; MOST_READ_BYTES],
+    read: usize,
+    text: &mut [u8; MOST_TEXT_BYTES],
+) -> usize
     ensures { λ r. ⌜ PrintsAll (now (buffer .entry)) read r (now (text .exit)) (now (text .entry)) ⌝ }
+    ensures { λ r. ⌜ Counted r (now (text .exit)) ⌝ }
 {
     put_input(text, buffer, read)
 }

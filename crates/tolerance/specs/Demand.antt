@@ -12,8 +12,8 @@ use Rattle.tolerance.specs.Logarithms.{Admissible, tableLogarithm}
 use Rattle.tolerance.specs.Stresses.{jacked, afterDeflector, exactStresses}
 use Rattle.tolerance.specs.Stresses.{coreFriction, coreAfterSegments, coreAfterDeflector, coreStresses}
 
--- what the demand allows a step, in ticks: 1 psi where the fractions read the core's logarithms, and 40 psi whatever admissible ones
--- they read
+-- what the delivery note allows a step, in ticks: 1 psi where the fractions read the core's logarithms, and 40 psi whatever admissible
+-- ones they read
 abbrev pub narrowStep : ℕ
 narrowStep = 1 * ticksPerUnit
 

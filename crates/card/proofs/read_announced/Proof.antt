@@ -61,12 +61,6 @@ returns c = segment-wrong (segments-read (c .before .before .before)) (c .if1 .t
 mul-at : tie.Need-mul-at
 mul-at c = search needs
 
-add-at : tie.Need-add-at
-add-at c = search needs
-
-mul-at-2 : tie.Need-mul-at-2
-mul-at-2 c = search needs
-
 add-line : tie.Need-add-line
 add-line c = search needs
 
@@ -132,12 +126,6 @@ mul-if3 c = search needs
 add-if3 : tie.Need-add-if3
 add-if3 c = search needs
 
-mul-if3-2 : tie.Need-mul-if3-2
-mul-if3-2 c = search needs
-
-add-if3-2 : tie.Need-add-if3-2
-add-if3-2 c = search needs
-
 add-result : tie.Need-add-result
 add-result c = search needs
 
@@ -169,8 +157,6 @@ read-announced-spec =
     same-length
     returns
     mul-at
-    add-at
-    mul-at-2
     add-line
     mul-read
     sub-read-lines
@@ -188,8 +174,6 @@ read-announced-spec =
     returns-2
     mul-if3
     add-if3
-    mul-if3-2
-    add-if3-2
     add-result
     same-length-3
     returns-3

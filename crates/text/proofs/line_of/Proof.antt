@@ -5,13 +5,14 @@ use Prim.Native.Nat.{ℕ, _<_}
 use native.Mathlib.Omega.{arith}
 use lib.ListN.{length, take}
 use lib.Seq.{length-take-le, take-all}
-use Rattle.text.specs.Columns.{mostColumns}
+use Rattle.text.specs.Columns.{mostPerLine}
 use borrow.Author.Needs.{needs}
+use Rattle.text.proofs.Laying.{counted}
 use Rattle.text.proofs.line_of.Statement.{statement}
 use Rattle.text.proofs.line_of.Tie as tie
 
-six : (numbers : List ℕ) → mostColumns < length numbers → length (take mostColumns numbers) ≡ mostColumns
-six numbers more = length-take-le mostColumns numbers (omega arith)
+six : (numbers : List ℕ) → mostPerLine < length numbers → length (take mostPerLine numbers) ≡ mostPerLine
+six numbers more = length-take-le mostPerLine numbers (omega arith)
 
 slice-aggregate-put-line : tie.Need-slice-aggregate-put-line
 slice-aggregate-put-line c = sym (six (c .before .before .before .before .args .numbers .now) (search needs))
@@ -20,13 +21,15 @@ put-line-requires : tie.Need-put-line-requires
 put-line-requires c κs = omega (arith, six (c .before .before .before .before .args .numbers .now) (search needs))
 
 returns : tie.Need-returns
-returns c = search needs
+returns c = (c .put-line .ensures, counted (c .put-line .ensures))
 
 put-line-requires-2 : tie.Need-put-line-requires-2
 put-line-requires-2 c κs = search needs
 
 returns-2 : tie.Need-returns-2
-returns-2 c = rw (take-all mostColumns _ (c .before .before .if1 .left)) (c .put-line2 .ensures)
+returns-2 c =
+    let holds = c .put-line2 .ensures in
+    (rw (take-all mostPerLine _ (c .before .before .if1 .left)) holds, counted holds)
 
 pub line-of-spec : {M : Type 1} → statement M
 line-of-spec =

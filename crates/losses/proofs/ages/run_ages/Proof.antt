@@ -5,6 +5,7 @@ use borrow.Author.Needs.{needs}
 use denote.Ref.{now}
 use lib.ListN.{getD}
 use native.Mathlib.Omega.{arith}
+use Rattle.checks.specs.Rows.{mostMoment}
 use Rattle.stages.proofs.Clocks.{end-bounded}
 use Rattle.losses.proofs.Running.{Progress, begins, ends, moments-fit, hour-fits, room-for-row, stops, turns}
 use Rattle.losses.proofs.ages.run_ages.Statement.{statement}
@@ -56,7 +57,7 @@ moments-most : (c : tie.After-struct-known Inv-loop μ-loop)
     → let turn = c .before .before .before in
     let args = turn .before .before .before .args in
     let loop = turn .before .loop in
-    loop .start .moments + getD (now (args .fields)) (loop .field + 1) 0 ≤ 2 ^ 40
+    loop .start .moments + getD (now (args .fields)) (loop .field + 1) 0 ≤ mostMoment
 moments-most c =
     let turn = c .before .before .before in
     moments-fit (turn .before .loop .inv) (turn .loop-test .taken)

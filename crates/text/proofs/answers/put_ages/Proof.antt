@@ -2,6 +2,7 @@
 -- Assumes nothing.
 use Prim.Native.Nat.{_-_}
 use borrow.Author.Needs.{needs}
+use Rattle.text.proofs.Laying.{counted}
 use Rattle.text.proofs.Texts.{Lined, none-lined, next-lined, all-lined}
 use Rattle.text.proofs.answers.put_ages.Statement.{statement}
 use Rattle.text.proofs.answers.put_ages.Tie as tie
@@ -80,7 +81,7 @@ put-line-requires : tie.Need-put-line-requires Inv-loop μ-loop
 put-line-requires c κs = search needs
 
 add-at : tie.Need-add-at Inv-loop μ-loop
-add-at c = search needs
+add-at c = let within = counted (c .before .before .put-line .ensures) .0 in search needs
 
 add-field-2 : tie.Need-add-field-2 Inv-loop μ-loop
 add-field-2 c = search needs

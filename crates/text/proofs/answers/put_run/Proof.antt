@@ -1,6 +1,7 @@
 -- What the answer prints is what the run's result does: a refusal's line, or the line before the ages and theirs behind it. Assumes
 -- nothing.
 use Rattle.checks.specs.Rows.{mostNumbers}
+use Rattle.text.proofs.Laying.{counted}
 use Rattle.text.proofs.Texts.{holds-then, ages-fit, refusal-printed, run-printed}
 use borrow.Author.Needs.{needs}
 use Rattle.text.proofs.answers.put_run.Statement.{statement}
@@ -28,10 +29,10 @@ put-before-requires : tie.Need-put-before-requires
 put-before-requires c κs = search needs
 
 sub-put-ages : tie.Need-sub-put-ages
-sub-put-ages c = search needs
+sub-put-ages c = let within = counted (c .before .before .put-before .ensures) .0 in search needs
 
 part-put-ages-start : tie.Need-part-put-ages-start
-part-put-ages-start c = search needs
+part-put-ages-start c = let within = counted (c .before .before .put-before .ensures) .0 in search needs
 
 part-put-ages-end : tie.Need-part-put-ages-end
 part-put-ages-end c = search needs
@@ -39,11 +40,14 @@ part-put-ages-end c = search needs
 put-ages-requires : tie.Need-put-ages-requires
 put-ages-requires c κs =
     let put = c .before .before .before .before in
-    ages-fit _ (c .before .before .before .before .before .before .before .before .before .before .before .before .before .before .before .pre)
-    (put .put-before .ensures)
+    let start = put .before .before .before .before .before .before .before .before .before .before .before in
+    ages-fit _ (start .pre) (put .put-before .ensures)
 
 add-result : tie.Need-add-result
-add-result c = search needs
+add-result c =
+    let within = counted (c .before .before .before .before .before .before .before .put-before .ensures) .0 in
+    let more = counted (c .before .before .put-ages .ensures) .0 in
+    search needs
 
 same-length : tie.Need-same-length
 same-length c = search needs
@@ -64,7 +68,8 @@ returns-2 c =
     let told = put .before .before in
     let ran = told .before .before .before .before .before in
     let is = rw (told .before .reply .given .1) at (ran .run-fields .ensures) in
-    run-printed _ _ _ mostNumbers (is .answered) (is .report-is) (holds-then (put .put-before .ensures) (c .before .before .put-ages .ensures))
+    run-printed _ _ _ mostNumbers (is .answered) (is .report-is)
+    (holds-then (put .put-before .ensures) (c .before .before .put-ages .ensures))
 
 pub put-run-spec : {M : Type 1} → statement M
 put-run-spec =

@@ -2,7 +2,6 @@
 -- The measure is how many numbers are due. Assumes nothing.
 use Prim.Native.Nat.{_-_}
 use borrow.Author.Needs.{needs}
-use native.Mathlib.Omega.{arith}
 use lib.ListN.{length}
 use Rattle.text.proofs.Laying.{Begun, none-begun, one-number-more, ended}
 use Rattle.text.proofs.columns.put_line.Statement.{statement}
@@ -14,65 +13,50 @@ Inv-loop part₀ numbers at₀ done₀ part at done = Begun part₀ numbers part
 abbrev μ-loop : tie.MeasureT-loop
 μ-loop part₀ numbers at₀ done₀ part at done = length numbers - done
 
--- src/columns.rt:48:5
 loop-holds : tie.Need-loop-holds Inv-loop μ-loop
 loop-holds c = none-begun _ _
 
--- src/columns.rt:49:20
 sub-put-number : tie.Need-sub-put-number Inv-loop μ-loop
 sub-put-number c = search needs
 
--- src/columns.rt:49:20
 part-put-number-start : tie.Need-part-put-number-start Inv-loop μ-loop
 part-put-number-start c = search needs
 
--- src/columns.rt:49:20
 part-put-number-end : tie.Need-part-put-number-end Inv-loop μ-loop
 part-put-number-end c = search needs
 
--- src/columns.rt:49:37
 mul-put-number : tie.Need-mul-put-number Inv-loop μ-loop
 mul-put-number c = search needs
 
--- src/columns.rt:49:37
 shared-slice-read-put-number : tie.Need-shared-slice-read-put-number Inv-loop μ-loop
 shared-slice-read-put-number c = search needs
 
--- src/columns.rt:49:9
 put-number-requires : tie.Need-put-number-requires Inv-loop μ-loop
 put-number-requires c κs = search needs
 
--- src/columns.rt:50:9
 add-at : tie.Need-add-at Inv-loop μ-loop
 add-at c = search needs
 
--- src/columns.rt:51:9
 add-done : tie.Need-add-done Inv-loop μ-loop
 add-done c = search needs
 
--- src/columns.rt:48:5
 loop-less : tie.Need-loop-less Inv-loop μ-loop
 loop-less c = search needs
 
--- src/columns.rt:48:5
 loop-again : tie.Need-loop-again Inv-loop μ-loop
 loop-again c =
     let turn = c .before .before .before .before .before .before in
     one-number-more (turn .loop .inv) (turn .before .before .before .pre) (search needs) _ (c .before .before .put-number .ensures)
 
--- src/columns.rt:53:5
 slice-write-part : tie.Need-slice-write-part Inv-loop μ-loop
 slice-write-part c = search needs
 
--- src/columns.rt:54:5
 add-result : tie.Need-add-result Inv-loop μ-loop
 add-result c = search needs
 
--- src/columns.rt:42:1
 same-length : tie.Need-same-length Inv-loop μ-loop
 same-length c = search needs
 
--- src/columns.rt:42:1
 returns : tie.Need-returns Inv-loop μ-loop
 returns c = ended (c .before .loop .inv) (c .before .before .before .before .pre) (c .loop-test .left)
 

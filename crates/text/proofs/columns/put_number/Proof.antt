@@ -1,7 +1,6 @@
 -- The columns from the loop's on are laid out, and what is left of the number belongs in those before it. The measure is how many
 -- columns are due. Assumes nothing.
 use borrow.Author.Needs.{needs}
-use native.Mathlib.Omega.{arith}
 use Rattle.text.proofs.Laying.{Laid, none-laid, one-more, all-laid}
 use Rattle.text.proofs.columns.put_number.Statement.{statement}
 use Rattle.text.proofs.columns.put_number.Tie as tie
