@@ -52,7 +52,7 @@ along unit x low [] = (unit * hundredths low) ÷ hundred
 along unit x low (high ∷ rows) =
     cond (ltb x (at high)) ((unit * weighed x low high) ÷ (hundred * (at high - at low))) (along unit x high rows)
 
--- the shares that are done when a clock reads `hours`, and reads `life` at the end of the service life; in 1/T, not rounded
+-- the share that is done when a clock reads `hours`, by the rows of its table; in 1/T, not rounded
 abbrev pub shareOf : List Row → ℕ → Fraction
 shareOf [] hours = whole 0
 shareOf (first ∷ rows) hours = along T hours first rows
