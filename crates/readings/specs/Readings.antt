@@ -15,7 +15,9 @@ use Rattle.fields.specs.Refusals.{number, place}
 use Rattle.fields.specs.Quantities.{Segment, Age, agesOf}
 use Rattle.member.specs.Friction.{pathFriction, parabola}
 use Rattle.member.specs.Member.{frictionOf}
+use Rattle.stages.specs.declared.BeforeAges.{BeforeAges}
 use Rattle.stages.specs.Run.{Result, reported, refused}
+use Rattle.losses.specs.Answers.{numbersBefore}
 use Rattle.losses.specs.Promise.{resultOf}
 use Rattle.text.specs.Columns.{allInColumns, lineOf}
 use Rattle.text.specs.Text.{reportText}
@@ -94,9 +96,19 @@ frictionOfCard card segments = frictionOf segments (cardOutcome card .numbers)
 abbrev pub age : ℕ → ℕ → Age
 age hour moment = record { hour = hour; moment = moment }
 
--- "creep, shrinkage, relaxation, stress per age"
-abbrev pub row : ℕ → ℕ → ℕ → ℕ → List ℕ
-row creep shrinkage relaxation stress = creep ∷ shrinkage ∷ relaxation ∷ stress ∷ []
+-- "friction, slip, deflector, early relaxation, shortening, stress" of the sample, and its rows: "creep, shrinkage, relaxation, stress"
+abbrev pub sampleBefore : BeforeAges
+sampleBefore =
+    record { friction = 0; slip = 0; deflector = 0; «early_relaxation» = 0; shortening = 7228235; stress = 115651765 }
+
+abbrev pub row1 : List ℕ
+row1 = 3026370 ∷ 5548031 ∷ 1651198 ∷ 105426166 ∷ []
+
+abbrev pub row2 : List ℕ
+row2 = 3074075 ∷ 5812223 ∷ 572430 ∷ 95967438 ∷ []
+
+abbrev pub row3 : List ℕ
+row3 = 1865515 ∷ 1849344 ∷ 815347 ∷ 91437232 ∷ []
 
 -- ---- the other readings
 
@@ -121,18 +133,9 @@ pub record Marked : Type 0 where
   -- "this sample": the fields of its text, its ages (the first, the second, the third), what it gives, and what is printed for it
   pub sample-fields : cardOutcome sample ≡ accepted 0 3 (fieldsOf sampleLines)
   pub sample-ages : agesOf 0 3 (cardOutcome sample .numbers) ≡ age 744 0 ∷ age 8784 0 ∷ age 438000 0 ∷ []
-  pub sample-result : resultOfCard sample 12 ≡ reported
-      (record { friction = 0; slip = 0; deflector = 0; «early_relaxation» = 0; shortening = 7228235; stress = 115651765 })
-      (row 3026370 5548031 1651198 105426166
-      ++ (row 3074075 5812223 572430 95967438
-      ++ row 1865515 1849344 815347 91437232))
-      91437232
-  pub sample-printed : reportText sample ≡ linesOf
-      ((0 ∷ 0 ∷ 0 ∷ 0 ∷ 7228235 ∷ 115651765 ∷ [])
-      ∷ (1 ∷ 744 ∷ row 3026370 5548031 1651198 105426166)
-      ∷ (2 ∷ 8784 ∷ row 3074075 5812223 572430 95967438)
-      ∷ (3 ∷ 438000 ∷ row 1865515 1849344 815347 91437232)
-      ∷ [])
+  pub sample-result : resultOfCard sample 12 ≡ reported sampleBefore (row1 ++ (row2 ++ row3)) 91437232
+  pub sample-printed : reportText sample
+      ≡ linesOf (numbersBefore sampleBefore ∷ (1 ∷ 744 ∷ row1) ∷ (2 ∷ 8784 ∷ row2) ∷ (3 ∷ 438000 ∷ row3) ∷ [])
   -- "L(1)=0, L(2)=77, L(9)=244, L(10)=256, L(18)=321, L(720)=731"
   pub L1 : logarithm 1 ≡ 0
   pub L2 : logarithm 2 ≡ 77

@@ -19,7 +19,7 @@ use Rattle.fields.specs.Quantities.{Age, agesFrom, agesOf}
 use Rattle.fields.proofs.Buffers.{length-over, written-behind}
 use Rattle.checks.specs.Rows.{perRow, mostNumbers}
 use Rattle.fields.specs.declared.refusal.Refusal.{Refusal}
-use Rattle.fields.specs.Refusals.{number, place}
+use Rattle.fields.specs.Refusals.{place}
 use Rattle.stages.specs.declared.BeforeAges.{BeforeAges}
 use Rattle.stages.specs.Run.{Result, reported, refused, resultOfReading}
 use Rattle.card.specs.Card.{mostBytes, cardOutcome}

@@ -1,6 +1,6 @@
 -- The invariant is `Progress`: the rows of the ages before stand in the scratch, and the ages from here on decide the rest. An age
 -- that is passed keeps it; the loop ends with the last age, or where no stress is left. Assumes nothing.
-use Prim.Native.Nat.{_+_, _-_, _^_, _≤_}
+use Prim.Native.Nat.{_+_, _-_, _≤_}
 use borrow.Author.Needs.{needs}
 use denote.Ref.{now}
 use lib.ListN.{getD}
