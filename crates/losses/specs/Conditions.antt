@@ -1,4 +1,5 @@
--- What the inner functions of the run ask for: no entry does, and every accepted member has it. Assumes nothing.
+-- What the inner functions of the run ask for: no entry does, and every accepted member has it. It serves the code alone. Assumes
+-- nothing.
 use Prim.Native.Nat.{ℕ, _*_, _≤_, _<_}
 use mathlib.Core.Path.{_≡_}
 use mathlib.Core.List.{List}

@@ -1,4 +1,4 @@
--- The rows of the ages in a buffer. Assumes nothing.
+-- The rows of the ages in a buffer, as the code holds them. It serves the code alone. Assumes nothing.
 use Prim.Native.Nat.{ℕ, _*_, _≤_}
 use mathlib.Core.List.{List, [], _∷_}
 use lib.ListN.{length}

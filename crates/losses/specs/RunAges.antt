@@ -1,4 +1,4 @@
--- What the run makes of the ages: the last stress, and a row for each in the scratch. Assumes nothing.
+-- What the run makes of the ages: the last stress, and a row for each in the scratch. It serves the code alone. Assumes nothing.
 use Prim.Native.Nat.{ℕ, _*_, _<_}
 use mathlib.Core.Path.{_≡_}
 use mathlib.Core.List.{List}
