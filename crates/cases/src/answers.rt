@@ -22,22 +22,15 @@ fn print_numbers(numbers: &[u64]) {
 }
 
 fn print_refusal(refusal: Refusal) {
-    let number = fields::refusal::number_of(refusal);
-    let place = fields::refusal::place_of(refusal);
-    print_numbers(&[number, place]);
+    let mut line = [0u8; MOST_LINE_BYTES];
+    let bytes = text::line_of_refusal(refusal, &mut line);
+    io::write_all(STDOUT_FILENO, &line[..bytes]);
 }
 
 fn print_before(before: BeforeAges) {
-    print_numbers(
-        &[
-            before.friction,
-            before.slip,
-            before.deflector,
-            before.early_relaxation,
-            before.shortening,
-            before.stress,
-        ],
-    );
+    let mut line = [0u8; MOST_LINE_BYTES];
+    let bytes = text::line_before_ages(before, &mut line);
+    io::write_all(STDOUT_FILENO, &line[..bytes]);
 }
 
 // The bits of a double, as one decimal number; of a NaN, an empty line.

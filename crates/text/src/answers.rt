@@ -30,7 +30,7 @@ pub(crate) fn put_refusal(part: &mut [u8], refusal: Refusal) -> usize
 }
 
 // The line of the losses before the ages and of the stress after them.
-fn put_before(part: &mut [u8], before: BeforeAges) -> usize
+pub(crate) fn put_before(part: &mut [u8], before: BeforeAges) -> usize
     requires { ⌜ RoomForLine (now part) ⌝ }
     ensures { λ r. ⌜ Holds (beforeText before) r (now (part .exit)) (now (part .entry)) ⌝ }
 {

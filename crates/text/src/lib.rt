@@ -2,7 +2,7 @@
 ghost use lib.ListN.{take};
 ghost use Rattle.text.specs.Columns.{lineOf, mostPerLine, Holds};
 ghost use Rattle.text.specs.Conditions.{RoomForText, InputFits, Counted};
-ghost use Rattle.text.specs.Text.{reportText, PrintsAll};
+ghost use Rattle.text.specs.Text.{refusalText, beforeText, reportText, PrintsAll};
 
 mod answers;
 mod columns;
@@ -10,7 +10,9 @@ mod columns;
 use fields::layout::MOST_AGES;
 use fields::layout::MOST_FIELDS;
 use fields::refusal::Reading;
+use fields::refusal::Refusal;
 use line::COLUMNS;
+use stages::BeforeAges;
 
 // The most numbers of a line, and the bytes of such a line.
 const MOST_PER_LINE: usize = 6;
@@ -32,6 +34,22 @@ pub fn line_of(numbers: &[u64], line: &mut [u8; MOST_LINE_BYTES]) -> usize
         return columns::put_line(line, &numbers[..MOST_PER_LINE]);
     }
     columns::put_line(line, numbers)
+}
+
+// The line of a refusal; how many bytes it has.
+pub fn line_of_refusal(refusal: Refusal, line: &mut [u8; MOST_LINE_BYTES]) -> usize
+    ensures { λ r. ⌜ Holds (refusalText refusal) r (now (line .exit)) (now (line .entry)) ⌝ }
+    ensures { λ r. ⌜ Counted r (now (line .exit)) ⌝ }
+{
+    answers::put_refusal(line, refusal)
+}
+
+// The line of the losses before the ages and of the stress after them; how many bytes it has.
+pub fn line_before_ages(before: BeforeAges, line: &mut [u8; MOST_LINE_BYTES]) -> usize
+    ensures { λ r. ⌜ Holds (beforeText before) r (now (line .exit)) (now (line .entry)) ⌝ }
+    ensures { λ r. ⌜ Counted r (now (line .exit)) ⌝ }
+{
+    answers::put_before(line, before)
 }
 
 // What is printed for a card.
