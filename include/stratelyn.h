@@ -14,13 +14,32 @@
 extern "C" {
 #endif
 
-/* Sizes to allocate, in bytes. The report and the scratch need 32 bytes an age. */
-#define STRATELYN_REPLY_BYTES 64
+/* What the sizes below are made of: a number; the numbers of a reply, and of an age in report and scratch; the columns of a card's field;
+ * the lines of a card before its segments, and their fields; the fields of a segment and of an age; the most of both. */
+#define STRATELYN_BYTES_PER_NUMBER 8
+#define STRATELYN_NUMBERS_PER_REPLY 8
+#define STRATELYN_NUMBERS_PER_AGE 4
+#define STRATELYN_COLUMNS_PER_FIELD 14
+#define STRATELYN_HEAD_LINES 4
+#define STRATELYN_HEAD_FIELDS 24
+#define STRATELYN_FIELDS_PER_SEGMENT 3
+#define STRATELYN_FIELDS_PER_AGE 2
+#define STRATELYN_MOST_SEGMENTS 64
 #define STRATELYN_MOST_AGES 64
-#define STRATELYN_BYTES_PER_AGE 32
+
+/* The fields of the longest card or list, and the lines of the longest card: each segment and each age has one. */
+#define STRATELYN_MOST_FIELDS \
+  (STRATELYN_HEAD_FIELDS + STRATELYN_FIELDS_PER_SEGMENT * STRATELYN_MOST_SEGMENTS + STRATELYN_FIELDS_PER_AGE * STRATELYN_MOST_AGES)
+#define STRATELYN_MOST_LINES (STRATELYN_HEAD_LINES + STRATELYN_MOST_SEGMENTS + STRATELYN_MOST_AGES)
+
+/* Sizes to allocate, in bytes. The report and the scratch need STRATELYN_BYTES_PER_AGE for each age; a line feed ends each line of a
+ * card. */
+#define STRATELYN_REPLY_BYTES (STRATELYN_BYTES_PER_NUMBER * STRATELYN_NUMBERS_PER_REPLY)
+#define STRATELYN_BYTES_PER_AGE (STRATELYN_BYTES_PER_NUMBER * STRATELYN_NUMBERS_PER_AGE)
 #define STRATELYN_MOST_REPORT_BYTES (STRATELYN_MOST_AGES * STRATELYN_BYTES_PER_AGE)
-#define STRATELYN_MOST_CARD_BYTES 4948
-#define STRATELYN_MOST_LIST_BYTES 2752
+#define STRATELYN_MOST_CARD_BYTES (STRATELYN_COLUMNS_PER_FIELD * STRATELYN_MOST_FIELDS + STRATELYN_MOST_LINES)
+#define STRATELYN_MOST_LIST_BYTES (STRATELYN_BYTES_PER_NUMBER * STRATELYN_MOST_FIELDS)
+
 #define STRATELYN_TICKS_PER_PSI 1024
 
 /* Each function uses less than this much stack; hosts/c/stack.c measures it. */

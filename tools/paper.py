@@ -1,21 +1,178 @@
 """Document 01's method, written from the paper with whole numbers and fractions. It shares nothing with the core.
 
-`card_answer(card)` is what the report program prints for a card, `list_answer(..)` what a run of a list of doubles gives. Every stored
-answer is held to them.
+`card_answer(card)` is what the report program prints for a card, `list_answer(..)` what a run of a list of doubles gives; every stored
+answer is held to them. The fields stand in one table, `LINES`, `SEGMENT` and `AGE`, and all else goes by their names: to add a field,
+add it there, with what the stored inputs take for it, and let tools/stored_answers.py --write lay them out anew.
 """
 import struct
+from collections import namedtuple
+from enum import IntEnum
 from fractions import Fraction
+from itertools import islice
 from math import floor, isfinite
+from typing import NamedTuple
 
 T = 1 << 24
 TICKS = 1024
+DAY = 24
 LIFE = 438000
-MOST_ROOM = 4 * 64
+
 SCF = [(1, 105), (2, 96), (3, 87), (4, 77), (5, 68)]
 SSF = [(1, 104), (2, 96), (3, 86), (4, 77), (5, 69), (6, 60)]
 MCF = [(3, 114), (5, 107), (7, 100), (10, 96), (20, 84), (30, 72), (40, 60)]
-CREEP = list(zip([0, 1, 2, 5, 7, 10, 20, 30, 60, 90, 180, 365], [0, 8, 15, 18, 23, 24, 30, 35, 45, 51, 61, 74]))
-SHRINKAGE = list(zip([0, 1, 3, 5, 7, 10, 20, 30, 60, 90, 180, 365], [0, 8, 15, 20, 22, 27, 36, 42, 55, 62, 68, 86]))
+CREEP_SHARES = list(zip([0, 1, 2, 5, 7, 10, 20, 30, 60, 90, 180, 365], [0, 8, 15, 18, 23, 24, 30, 35, 45, 51, 61, 74]))
+SHRINKAGE_SHARES = list(zip([0, 1, 3, 5, 7, 10, 20, 30, 60, 90, 180, 365], [0, 8, 15, 20, 22, 27, 36, 42, 55, 62, 68, 86]))
+
+PRETENSIONED, POST_TENSIONED = 1, 2
+STRESS_RELIEVED, LOW_RELAXATION = 1, 2
+MOIST, ACCELERATED = 1, 2
+NORMAL, LIGHTWEIGHT = 1, 2
+STRAIGHT, PARABOLA, BEND = 1, 2, 3
+
+MOST_MOMENTS = 2**40
+MOST_X = 5033164
+MOST_KAPPA = 2**30
+MOST_CREEP = 2**56
+LEAST_STRESS = 1000 * TICKS
+MOST_CURING_IF_MOIST = 168
+LEAST_TRANSFER = {MOIST: 72, ACCELERATED: 1}
+MOST_TRANSFER = 960
+
+
+# The table of fields
+
+
+class Field(NamedTuple):
+    """A field: its name; the ends of its range, of which the upper one may depend on the head; its codes; whether it is kept in ticks;
+    what it reads where it is blank; and, of a field that came later, what the inputs take that were stored before it."""
+
+    name: str
+    least: int = None
+    most: object = None
+    codes: tuple = ()
+    ticks: bool = False
+    blank: int = None
+    older: int = None
+
+    def range(self, head):
+        """The ends of the range on a card with this head."""
+        return self.least, self.most(head) if callable(self.most) else self.most
+
+
+# The lines of a card's head. A field's number is its place among them all, from 1.
+LINES = (
+    (
+        Field("kind", codes=(PRETENSIONED, POST_TENSIONED)),
+        Field("steel", codes=(STRESS_RELIEVED, LOW_RELAXATION)),
+        Field("ultimate_strength", 100000, 300000),
+        Field("jacking_stress", 1000, lambda head: head.ultimate_strength * 4 // 5),
+        Field("deflector_loss", 0, lambda head: 20000 if head.kind == PRETENSIONED else 0),
+        Field("slip", 0, 2048, ticks=True, blank=256),
+        Field("length", 1024, 2097152, ticks=True),
+    ),
+    (
+        Field("cure", codes=(MOIST, ACCELERATED)),
+        Field("concrete", codes=(NORMAL, LIGHTWEIGHT)),
+        Field("es", 20000000, 32000000),
+        Field("eci", 1000000, 8000000),
+        Field("ec", 1000000, 8000000),
+        Field("volume_to_surface", 1024, 65536, ticks=True),
+    ),
+    (
+        Field("area", 1024, 2**24, ticks=True),
+        Field("inertia", 1024, 2**34, ticks=True),
+        Field("eccentricity", 0, 65536, ticks=True),
+        Field("steel_area", 1, 65536, ticks=True),
+        Field("own_weight_moment", 0, MOST_MOMENTS, ticks=True),
+    ),
+    (
+        Field("end_of_curing"),
+        Field("transfer"),
+        Field("wobble", 0, 2000),
+        Field("curvature", 0, 400000),
+        Field("segments", 0, 64),
+        Field("ages", 3, 64),
+    ),
+)
+SEGMENT = (Field("kind", codes=(STRAIGHT, PARABOLA, BEND)), Field("length", ticks=True), Field("rise", ticks=True))
+AGE = (Field("hour"), Field("moment", ticks=True))
+
+# The lines behind the head, in their order: the field that counts them, and the fields of each.
+BODY = {"segments": SEGMENT, "ages": AGE}
+
+# A segment's ranges: the least and the most length, and the most rise, for a bend the most angle.
+SEGMENT_RANGES = {STRAIGHT: (1, 2097152, 0), PARABOLA: (1024, 2097152, 65536), BEND: (0, 0, 4096)}
+
+# The numbers before the ages, and of each age in the report; how many numbers of scratch an age needs.
+BEFORE_AGES = ("friction", "slip", "deflector_loss", "early_relaxation", "shortening", "stress")
+ROW = ("creep", "shrinkage", "relaxation", "stress")
+REPORT_NUMBERS_OF_AGE = len(ROW)
+SCRATCH_NUMBERS_OF_AGE = len(ROW)
+
+COLUMNS = 14
+BLANK = b" " * COLUMNS
+LINE_FEED = b"\n"
+
+HEAD = sum(LINES, ())
+NUMBER = {field.name: number for number, field in enumerate(HEAD, 1)}
+COUNTS = [field for field in HEAD if field.name in BODY]
+
+
+def record(name, fields):
+    """A class of named numbers; a field that came later may be left out and is then what older inputs take."""
+    return namedtuple(name, [field.name for field in fields], defaults=[field.older for field in fields])
+
+
+Head, Segment, Age = record("Head", HEAD), record("Segment", SEGMENT), record("Age", AGE)
+BeforeAges = namedtuple("BeforeAges", BEFORE_AGES)
+AgeLine = namedtuple("AgeLine", ("age", "hour") + ROW)
+
+
+def most_of(name):
+    return HEAD[NUMBER[name] - 1].most
+
+
+MOST_SEGMENTS, MOST_AGES = most_of("segments"), most_of("ages")
+MOST_REPORT_ROOM = REPORT_NUMBERS_OF_AGE * MOST_AGES
+MOST_SCRATCH_ROOM = SCRATCH_NUMBERS_OF_AGE * MOST_AGES
+
+
+def lines_of(counts):
+    """The fields of each line of a card with these counts."""
+    return LINES + sum(((fields,) * counts[name] for name, fields in BODY.items()), ())
+
+
+def number_in(fields, name):
+    return 1 + [field.name for field in fields].index(name)
+
+
+def number_in_segment(segment, name):
+    """The number of a field of a segment, the first segment being 0."""
+    return len(HEAD) + len(SEGMENT) * segment + number_in(SEGMENT, name)
+
+
+def number_in_age(segments, age, name):
+    """The number of a field of an age behind so many segments, the first age being 0."""
+    return len(HEAD) + len(SEGMENT) * segments + len(AGE) * age + number_in(AGE, name)
+
+
+# Refusals
+
+
+class Refusal(IntEnum):
+    CODE = 1
+    RANGE = 2
+    HOURS = 3
+    DUCT = 4
+    SECTION = 5
+    CREEP = 6
+    STRESS = 7
+    SHAPE = 8
+    DOUBLE = 9
+    BUFFER = 10
+
+
+ACCEPTED = (0, 0)
 
 
 class Refused(Exception):
@@ -24,15 +181,20 @@ class Refused(Exception):
 
 def check(holds, number, place):
     if not holds:
-        raise Refused(number, place)
+        raise Refused(int(number), place)
+
+
+def check_range(head, field):
+    least, most = field.range(head)
+    check(least <= getattr(head, field.name) <= most, Refusal.RANGE, NUMBER[field.name])
 
 
 # Hours, logarithms and coefficients
 
 
-def clocks(kind, curing, transfer, hour):
+def clocks(kind, end_of_curing, transfer, hour):
     """Hours since transfer, since the end of curing and since tensioning."""
-    return hour - transfer, hour - curing, max(1, hour if kind == 1 else hour - transfer)
+    return hour - transfer, hour - end_of_curing, max(1, hour if kind == PRETENSIONED else hour - transfer)
 
 
 def logarithm(hour):
@@ -54,208 +216,221 @@ def size_factor(rows, volume_to_surface):
 
 
 def mcf(cure, transfer):
-    return along(MCF, 24, 72000, transfer) if cure == 1 else 72000
+    return along(MCF, DAY, 72000, transfer) if cure == MOIST else 72000
 
 
 def share(rows, life, hours):
     """A share at a reading of its clock, which reads `life` at the end of the service life."""
-    return along(rows, 24, T, hours, [(life, 100)])
+    return along(rows, DAY, T, hours, [(life, 100)])
 
 
 def ucr(cure, concrete, ec):
-    return max(11000000, {(1, 1): 95000000, (1, 2): 76000000}.get((cure, concrete), 63000000) - 20 * ec)
+    b = {(MOIST, NORMAL): 95000000, (MOIST, LIGHTWEIGHT): 76000000}.get((cure, concrete), 63000000)
+    return max(11000000, b - 20 * ec)
 
 
 def ush(concrete, ec):
-    return max(12 * 10**9, 27 * 10**9 - 3000 * ec if concrete == 1 else 41 * 10**9 - 10000 * ec)
+    return max(12 * 10**9, 27 * 10**9 - 3000 * ec if concrete == NORMAL else 41 * 10**9 - 10000 * ec)
 
 
-def whole_creep(f):
-    return ucr(f[8], f[9], f[12]) * size_factor(SCF, f[13]) * mcf(f[8], f[20]) // 439453125
+def whole_creep(head):
+    """U."""
+    factors = size_factor(SCF, head.volume_to_surface) * mcf(head.cure, head.transfer)
+    return ucr(head.cure, head.concrete, head.ec) * factors // 439453125
 
 
-def whole_shrinkage(f):
-    return ush(f[9], f[12]) * size_factor(SSF, f[13]) // 10**8
+def whole_shrinkage(head):
+    """S."""
+    return ush(head.concrete, head.ec) * size_factor(SSF, head.volume_to_surface) // 10**8
 
 
-# The card
+# The card and the list of doubles: each is read as a head, segments and ages
 
 
-def field(columns, number):
-    text = columns.lstrip(b" ")
-    if not text:
-        return 256 if number == 6 else None
-    return int(text) if all(48 <= byte <= 57 for byte in text) else None
+def member_of(numbers):
+    """The head, the segments and the ages whose fields these are."""
+    head, rest = Head(*numbers[: len(HEAD)]), iter(numbers[len(HEAD) :])
+    records = lambda kind, count: [kind(*islice(rest, len(kind._fields))) for _ in range(count)]
+    return head, records(Segment, head.segments), records(Age, head.ages)
+
+
+def field_of_card(columns, field):
+    if columns == BLANK:
+        return field.blank
+    digits = columns.lstrip(b" ")
+    return int(digits) if all(b"0"[0] <= byte <= b"9"[0] for byte in digits) else None
+
+
+def numbers_of_card(card):
+    """All its fields, in their order."""
+    numbers, at, line = [], 0, 0
+
+    def read(lines):
+        nonlocal at, line
+        for fields in lines:
+            line += 1
+            width = COLUMNS * len(fields) + len(LINE_FEED)
+            text = card[at : at + width]
+            check(len(text) == width and text.endswith(LINE_FEED), Refusal.SHAPE, line)
+            for k, field in enumerate(fields):
+                numbers.append(field_of_card(text[COLUMNS * k : COLUMNS * (k + 1)], field))
+                check(numbers[-1] is not None, Refusal.SHAPE, line)
+            at += width
+
+    read(LINES)
+    head = Head(*numbers)
+    for field in COUNTS:
+        check_range(head, field)
+    read(lines_of(head._asdict())[len(LINES) :])
+    check(at == len(card), Refusal.SHAPE, line + 1)
+    return numbers
 
 
 def read_card(card):
-    """The fields, and the counts of segments and ages."""
-    fields, at, line = [], 0, 0
-
-    def read(counts):
-        nonlocal at, line
-        for count in counts:
-            line += 1
-            width = 14 * count + 1
-            text = card[at : at + width]
-            check(len(text) == width and text[-1:] == b"\n", 8, line)
-            for k in range(count):
-                fields.append(field(text[14 * k : 14 * k + 14], len(fields) + 1))
-                check(fields[-1] is not None, 8, line)
-            at += width
-
-    read([7, 6, 5, 6])
-    s, n = fields[22:24]
-    check(s <= 64, 2, 23)
-    check(3 <= n <= 64, 2, 24)
-    read([3] * s + [2] * n)
-    check(at == len(card), 8, line + 1)
-    return fields, s, n
+    return member_of(numbers_of_card(card))
 
 
-# The list of doubles
-
-
-def in_ticks(k, s):
-    """Whether field k of a list with s segments is kept in ticks."""
-    if k < 25:
-        return k in (6, 7) or 13 <= k <= 18
-    first_age = 25 + 3 * s
-    return (k - 25) % 3 != 0 if k < first_age else (k - first_age) % 2 == 1
-
-
-def number_of(double, k, s):
-    """Field k as a whole number, of ticks if it is kept so."""
-    check(isfinite(double) and 0 <= double < 2**31, 9, k)
-    exact = Fraction(double) * (TICKS if in_ticks(k, s) else 1)
-    check(exact.denominator == 1 or in_ticks(k, s), 9, k)
+def number_of(double, field, number):
+    """A field as a whole number, of ticks if it is kept so."""
+    check(isfinite(double) and 0 <= double < 2**31, Refusal.DOUBLE, number)
+    exact = Fraction(double) * (TICKS if field.ticks else 1)
+    check(exact.denominator == 1 or field.ticks, Refusal.DOUBLE, number)
     return floor(exact)
 
 
 def read_list(doubles):
-    """The fields, and the counts of segments and ages."""
-    check(len(doubles) >= 24, 8, 0)
-    s = number_of(doubles[22], 23, 0)
-    check(s <= 64, 2, 23)
-    n = number_of(doubles[23], 24, 0)
-    check(3 <= n <= 64, 2, 24)
-    check(len(doubles) == 24 + 3 * s + 2 * n, 8, 0)
-    return [number_of(double, k, s) for k, double in enumerate(doubles, 1)], s, n
+    check(len(doubles) >= len(HEAD), Refusal.SHAPE, 0)
+    counts = {}
+    for field in COUNTS:
+        number = NUMBER[field.name]
+        counts[field.name] = number_of(doubles[number - 1], field, number)
+        check(field.least <= counts[field.name] <= field.most, Refusal.RANGE, number)
+    fields = sum(lines_of(counts), ())
+    check(len(doubles) == len(fields), Refusal.SHAPE, 0)
+    return member_of([number_of(double, field, number) for number, (double, field) in enumerate(zip(doubles, fields), 1)])
 
 
 # The checks and the steps
 
 
-def check_fields(f, segments, ages):
-    """The rows codes, ranges and hours; `f` is numbered from 1."""
-    for k in (1, 2, 8, 9):
-        check(f[k] in (1, 2), 1, k)
-    for i, (kind, _, _) in enumerate(segments):
-        check(kind in (1, 2, 3), 1, 25 + 3 * i)
-    for k, low, high in (
-        (3, 100000, 300000), (4, 1000, f[3] * 4 // 5), (5, 0, 20000 if f[1] == 1 else 0), (6, 0, 2048), (7, 1024, 2097152),
-        (10, 20000000, 32000000), (11, 1000000, 8000000), (12, 1000000, 8000000), (13, 1024, 65536), (14, 1024, 2**24),
-        (15, 1024, 2**34), (16, 0, 65536), (17, 1, 65536), (18, 0, 2**40), (21, 0, 2000), (22, 0, 400000),
-    ):
-        check(low <= f[k] <= high, 2, k)
-    for i, (kind, length, rise) in enumerate(segments):
-        shortest, longest, highest = {1: (1, 2097152, 0), 2: (1024, 2097152, 65536), 3: (0, 0, 4096)}[kind]
-        check(shortest <= length <= longest, 2, 26 + 3 * i)
-        check(rise <= highest, 2, 27 + 3 * i)
-    first, moments = 25 + 3 * len(segments), f[18]
-    for i, (_, moment) in enumerate(ages):
-        moments += moment
-        check(moments <= 2**40, 2, first + 2 * i + 1)
-    curing, before, moist = f[19], f[20], f[8] == 1
-    check(curing <= before and (f[1] == 2 or curing == before) and (not moist or curing <= 168), 3, 19)
-    check((72 if moist else 1) <= before <= 960, 3, 20)
-    for i, (hour, _) in enumerate(ages):
-        check(before < hour <= LIFE, 3, first + 2 * i)
-        before = hour
+def check_codes(head, segments):
+    for field in HEAD:
+        check(not field.codes or getattr(head, field.name) in field.codes, Refusal.CODE, NUMBER[field.name])
+    for i, segment in enumerate(segments):
+        check(segment.kind in SEGMENT_RANGES, Refusal.CODE, number_in_segment(i, "kind"))
+
+
+def check_ranges(head, segments, ages):
+    for field in HEAD:
+        if field.least is not None:
+            check_range(head, field)
+    for i, segment in enumerate(segments):
+        shortest, longest, highest = SEGMENT_RANGES[segment.kind]
+        check(shortest <= segment.length <= longest, Refusal.RANGE, number_in_segment(i, "length"))
+        check(segment.rise <= highest, Refusal.RANGE, number_in_segment(i, "rise"))
+    moments = head.own_weight_moment
+    for i, age in enumerate(ages):
+        moments += age.moment
+        check(moments <= MOST_MOMENTS, Refusal.RANGE, number_in_age(len(segments), i, "moment"))
+
+
+def check_hours(head, segments, ages):
+    curing, transfer = head.end_of_curing, head.transfer
+    in_order = curing == transfer if head.kind == PRETENSIONED else curing <= transfer
+    in_time = head.cure != MOIST or curing <= MOST_CURING_IF_MOIST
+    check(in_order and in_time, Refusal.HOURS, NUMBER["end_of_curing"])
+    check(LEAST_TRANSFER[head.cure] <= transfer <= MOST_TRANSFER, Refusal.HOURS, NUMBER["transfer"])
+    before = transfer
+    for i, age in enumerate(ages):
+        check(before < age.hour <= LIFE, Refusal.HOURS, number_in_age(len(segments), i, "hour"))
+        before = age.hour
 
 
 def friction(wobble, curvature, segments):
+    """X."""
     x = 0
-    for kind, length, rise in segments:
-        x += wobble * length * T // (1024 * 10**6)
-        if kind == 2:
-            x += curvature * 2 * rise * T // (10**6 * length)
-        if kind == 3:
-            x += curvature * rise * T // (1024 * 10**6)
+    for segment in segments:
+        x += wobble * segment.length * T // (TICKS * 10**6)
+        if segment.kind == PARABOLA:
+            x += curvature * 2 * segment.rise * T // (10**6 * segment.length)
+        if segment.kind == BEND:
+            x += curvature * segment.rise * T // (TICKS * 10**6)
     return x
 
 
-def run(fields, s, n, report_room=MOST_ROOM, scratch_room=MOST_ROOM):
-    """The losses and the stress before the ages, and each age's row; rooms are in numbers."""
-    f = [None] + fields
-    segments = [tuple(fields[24 + 3 * i : 27 + 3 * i]) for i in range(s)]
-    ages = [tuple(fields[24 + 3 * s + 2 * i : 26 + 3 * s + 2 * i]) for i in range(n)]
-    check_fields(f, segments, ages)
-    check(f[1] == 2 or s == 0, 4, 1)
-    x = friction(f[21], f[22], segments)
-    check(x <= 5033164, 4, 2)
-    check(report_room >= 4 * n, 10, 1)
-    check(scratch_room >= 4 * n, 10, 2)
-    kappa = f[17] * 2**32 // f[14] + 4096 * f[17] * f[16] ** 2 // f[15]
-    check(kappa <= 2**30, 5, 14)
-    creep, shrinkage = whole_creep(f), whole_shrinkage(f)
-    check(creep * kappa <= 2**56, 6, 17)
+def run(head, segments, ages, report_room=MOST_REPORT_ROOM, scratch_room=MOST_SCRATCH_ROOM):
+    """The losses and the stress before the ages, and each age's line; rooms are in numbers."""
+    check_codes(head, segments)
+    check_ranges(head, segments, ages)
+    check_hours(head, segments, ages)
+    check(head.kind == POST_TENSIONED or not segments, Refusal.DUCT, 1)
+    x = friction(head.wobble, head.curvature, segments)
+    check(x <= MOST_X, Refusal.DUCT, 2)
+    check(report_room >= REPORT_NUMBERS_OF_AGE * len(ages), Refusal.BUFFER, 1)
+    check(scratch_room >= SCRATCH_NUMBERS_OF_AGE * len(ages), Refusal.BUFFER, 2)
+    kappa = head.steel_area * 2**32 // head.area + 4096 * head.steel_area * head.eccentricity**2 // head.inertia
+    check(kappa <= MOST_KAPPA, Refusal.SECTION, NUMBER["area"])
+    creep, shrinkage = whole_creep(head), whole_shrinkage(head)
+    check(creep * kappa <= MOST_CREEP, Refusal.CREEP, NUMBER["steel_area"])
 
-    divisor, y = (2560, 85 * f[3] * 1024 // 100) if f[2] == 1 else (11520, 90 * f[3] * 1024 // 100)
+    divisor, percent = {STRESS_RELIEVED: (2560, 85), LOW_RELAXATION: (11520, 90)}[head.steel]
+    y = percent * head.ultimate_strength * TICKS // 100
     relax = lambda stress, logs: stress * logs // divisor * max(stress * T // y - 55 * T // 100, 5 * T // 100) // T
-    concrete = lambda stress, moments: max(0, stress * kappa // 2**32 - moments * f[16] // f[15])
+    concrete = lambda stress, moments: max(0, stress * kappa // 2**32 - moments * head.eccentricity // head.inertia)
 
     def readings(hour):
         """Both shares and the logarithm at an hour of the member."""
-        since_transfer, since_curing, since_tensioning = clocks(f[1], f[19], f[20], hour)
-        shares = share(CREEP, LIFE - f[20], since_transfer), share(SHRINKAGE, LIFE - f[19], since_curing)
-        return *shares, logarithm(since_tensioning)
+        since_transfer, since_curing, since_tensioning = clocks(head.kind, head.end_of_curing, head.transfer, hour)
+        creep_share = share(CREEP_SHARES, LIFE - head.transfer, since_transfer)
+        return creep_share, share(SHRINKAGE_SHARES, LIFE - head.end_of_curing, since_curing), logarithm(since_tensioning)
 
     def left(stress, loss, place):
-        check(stress - loss >= 1000 * 1024, 7, place)
+        check(stress - loss >= LEAST_STRESS, Refusal.STRESS, place)
         return stress - loss
 
-    stress, losses, start, moments = f[4] * 1024, [], readings(f[20]), f[18]
+    start, moments = readings(head.transfer), head.own_weight_moment
+    _, _, early_logs = start
+    stress, losses = head.jacking_stress * TICKS, []
     for loss in (
         lambda stress: stress * x // T,
-        lambda stress: f[10] * f[6] * 1024 // (12 * f[7]),
-        lambda stress: f[5] * 1024,
-        lambda stress: relax(stress, start[2]) if f[1] == 1 else 0,
-        lambda stress: f[10] * concrete(stress, moments) // (f[11] + f[10] * kappa // 2**32),
+        lambda stress: head.es * head.slip * TICKS // (12 * head.length),
+        lambda stress: head.deflector_loss * TICKS,
+        lambda stress: relax(stress, early_logs) if head.kind == PRETENSIONED else 0,
+        lambda stress: head.es * concrete(stress, moments) // (head.eci + head.es * kappa // 2**32),
     ):
         losses.append(loss(stress))
         stress = left(stress, losses[-1], 0)
-    before = losses + [stress]
+    before = BeforeAges(*losses, stress)
 
-    rows = []
-    for number, (hour, moment) in enumerate(ages, 1):
-        end = readings(hour)
+    lines = []
+    for number, age in enumerate(ages, 1):
+        end = readings(age.hour)
         of_creep, of_shrinkage, logs = (b - a for a, b in zip(start, end))
-        row = [
+        losses = [
             creep * of_creep // T * concrete(stress, moments) // T,
             shrinkage * of_shrinkage // T,
             relax(stress, logs),
         ]
-        stress = left(stress, sum(row), number)
-        rows.append([number, hour] + row + [stress])
-        start, moments = end, moments + moment
-    return before, rows
+        stress = left(stress, sum(losses), number)
+        lines.append(AgeLine(number, age.hour, *losses, stress))
+        start, moments = end, moments + age.moment
+    return before, lines
 
 
 # The answers
 
 
 def line_of(numbers):
-    return "".join("%14d" % number for number in numbers) + "\n"
+    return "".join("%*d" % (COLUMNS, number) for number in numbers) + "\n"
 
 
 def card_rows(card):
     """The numbers of each line of a card's answer."""
     try:
-        before, rows = run(*read_card(card))
+        before, lines = run(*read_card(card))
     except Refused as refusal:
-        return [list(refusal.args)]
-    return [before] + rows
+        return [refusal.args]
+    return [before, *lines]
 
 
 def card_answer(card):
@@ -264,11 +439,11 @@ def card_answer(card):
 
 
 def list_answer(doubles, report_room, scratch_room):
-    """Number and place; then, if accepted, five losses, the stress before the ages, the bits of the last stress as a double, and four
-    numbers for each age."""
+    """Number and place; then, of an accepted list, the numbers before the ages, the bits of the last stress as a double, and each age's
+    row; of a refused one nothing."""
     try:
-        before, rows = run(*read_list(doubles), report_room, scratch_room)
+        before, lines = run(*read_list(doubles), report_room, scratch_room)
     except Refused as refusal:
-        return list(refusal.args), []
-    (last_stress,) = struct.unpack("<Q", struct.pack("<d", rows[-1][5] / TICKS))
-    return [0, 0], before + [last_stress] + [number for row in rows for number in row[2:]]
+        return refusal.args, None, None, []
+    (last_stress,) = struct.unpack("<Q", struct.pack("<d", lines[-1].stress / TICKS))
+    return ACCEPTED, before, last_stress, [[getattr(line, name) for name in ROW] for line in lines]

@@ -7,74 +7,74 @@
 #[path = "../../hosts/rust/tests/paper/mod.rs"]
 mod paper;
 
-use paper::{read_card, read_list, Paper, Refusal, Run};
+use paper::Field::*;
+use paper::{age, in_ticks, lines, read_card, read_list, segment, Field, Member, Paper, Refusal, Run};
+use paper::{BEND, COLUMNS, HEAD_FIELDS, LIFE, MOST_AGES, MOST_SEGMENTS, PARABOLA, STRAIGHT, TICKS};
 use std::hint::black_box;
 use std::time::Instant;
+use stratelyn::{BYTES_PER_AGE, REPLY_BYTES};
 
 const ROUNDS: usize = 41;
+const BYTES_OF_NUMBER: usize = 8;
+const REPORT_BYTES: usize = stratelyn::MOST_AGES * BYTES_PER_AGE;
 
 /// Document 01's sample beam.
-fn sample() -> Vec<u64> {
-    vec![
-        2, 1, 240_000, 120_000, 0, 0, 102_400, 2, 1, 28_000_000, 3_500_000, 4_000_000, 3072, 131_072, 1_048_576, 0, 1024, 0, 24, 24,
-        0, 0, 0, 3, 744, 0, 8784, 0, 438_000, 0,
-    ]
+fn sample() -> Member {
+    read_card(include_bytes!("../../crates/report/stdin")).expect("the sample is accepted")
 }
 
-/// A member with 64 segments and 64 ages.
-fn large() -> Vec<u64> {
-    let mut f = sample();
-    f.truncate(24);
-    (f[3], f[14], f[15], f[17], f[20], f[21], f[22], f[23]) = (180_000, 1 << 26, 2048, 1 << 20, 100, 50_000, 64, 64);
-    for i in 0..64 {
-        f.extend([[1, 2048, 0], [2, 65_536, 512], [3, 0, 10]][i % 3]);
+/// A member with the most segments and ages.
+fn large() -> Member {
+    let Member(mut f) = sample();
+    f.truncate(HEAD_FIELDS);
+    let mut set = |field: Field, number: u64| f[field.at()] = number;
+    set(JackingStress, 180_000);
+    set(Inertia, 1 << 26);
+    set(Eccentricity, 2048);
+    set(OwnWeightMoment, 1 << 20);
+    set(Wobble, 100);
+    set(Curvature, 50_000);
+    set(Segments, MOST_SEGMENTS);
+    set(Ages, MOST_AGES);
+    let kinds = [segment(STRAIGHT, 2048, 0), segment(PARABOLA, 65_536, 512), segment(BEND, 0, 10)];
+    f.extend(kinds.iter().cycle().take(MOST_SEGMENTS as usize).flatten());
+    for i in 0..MOST_AGES {
+        f.extend(age(if i + 1 < MOST_AGES { 744 + 100 * i } else { LIFE }, i * 1000 % 7777));
     }
-    for i in 0..64 {
-        f.extend([if i < 63 { 744 + 100 * i } else { 438_000 }, i * 1000 % 7777]);
-    }
-    f
+    Member(f)
 }
 
-fn card(f: &[u64]) -> Vec<u8> {
-    let (mut text, mut at) = (String::new(), 0);
-    let mut counts = vec![7, 6, 5, 6];
-    counts.extend(vec![3; f[22] as usize]);
-    counts.extend(vec![2; f[23] as usize]);
-    for count in counts {
-        text.extend(f[at..at + count].iter().map(|v| format!("{v:14}")));
+fn card(member: &Member) -> Vec<u8> {
+    let (mut text, mut fields) = (String::new(), member.0.iter());
+    for count in lines(member.segments(), member.ages()) {
+        text.extend(fields.by_ref().take(count).map(|v| format!("{v:COLUMNS$}")));
         text.push('\n');
-        at += count;
     }
     text.into_bytes()
 }
 
-fn list(f: &[u64]) -> Vec<u8> {
-    let s = f[22] as usize;
-    let in_ticks = |field: usize| match field {
-        6 | 7 | 13..=18 => true,
-        1..=24 => false,
-        _ if field < 25 + 3 * s => (field - 25) % 3 != 0,
-        _ => (field - 25 - 3 * s) % 2 == 1,
-    };
-    let double = |(i, &v): (usize, &u64)| (v as f64 / if in_ticks(i + 1) { 1024.0 } else { 1.0 }).to_bits().to_le_bytes();
-    f.iter().enumerate().flat_map(double).collect()
+fn list(member: &Member) -> Vec<u8> {
+    let unit = |number: usize| if in_ticks(number, member.segments()) { TICKS as f64 } else { 1.0 };
+    let double = |(i, &v): (usize, &u64)| (v as f64 / unit(i + 1)).to_bits().to_le_bytes();
+    member.0.iter().enumerate().flat_map(double).collect()
 }
 
 /// The independent implementation as a C host would call it.
 fn answer(run: Result<Run, Refusal>, report: &mut [u8], reply: &mut [u8]) -> u64 {
-    let mut put = |at: usize, number: u64| reply[8 * at..8 * at + 8].copy_from_slice(&number.to_le_bytes());
+    let put = |buffer: &mut [u8], numbers: &[u64]| {
+        for (bytes, number) in buffer.chunks_exact_mut(BYTES_OF_NUMBER).zip(numbers) {
+            bytes.copy_from_slice(&number.to_le_bytes());
+        }
+    };
     match run {
         Err((number, place)) => {
-            (0..8).for_each(|at| put(at, if at == 0 { place } else { 0 }));
+            reply.fill(0);
+            put(reply, &[place]);
             number
         }
         Ok(run) => {
-            put(0, 0);
-            run.before.iter().enumerate().for_each(|(i, &n)| put(i + 1, n));
-            put(7, (run.rows.last().map_or(0, |row| row[3]) as f64 / 1024.0).to_bits());
-            for (bytes, number) in report.chunks_exact_mut(8).zip(run.rows.iter().flatten()) {
-                bytes.copy_from_slice(&number.to_le_bytes());
-            }
+            put(reply, &[&[0], &run.before[..], &[run.last_stress().to_bits()]].concat());
+            put(report, run.rows.as_flattened());
             0
         }
     }
@@ -98,7 +98,7 @@ fn median(mut times: Vec<f64>) -> f64 {
 
 fn main() {
     let words: Vec<String> = std::env::args().collect();
-    let (mut report, mut scratch, mut reply) = ([0u8; 2048], [0u8; 2048], [0u8; 64]);
+    let (mut report, mut scratch, mut reply) = ([0u8; REPORT_BYTES], [0u8; REPORT_BYTES], [0u8; REPLY_BYTES]);
     if words.len() == 5 && words[1] == "count" {
         let member = if words[3] == "large" { large() } else { sample() };
         let (entry, input): (Entry, Vec<u8>) =
@@ -121,10 +121,11 @@ fn main() {
                 }));
                 independent.push(time(runs, || {
                     let numbers = |b: &[u8]| -> Vec<u64> {
-                        b.chunks_exact(8).map(|n| u64::from_le_bytes(n.try_into().expect("eight bytes"))).collect()
+                        b.chunks_exact(BYTES_OF_NUMBER).map(|n| u64::from_le_bytes(n.try_into().expect("eight bytes"))).collect()
                     };
                     let read = if kind == "card" { read_card(&text) } else { read_list(&numbers(&bytes)) };
-                    let run = read.and_then(|(f, s, n)| paper.run(&f, s, n, 256, 256));
+                    let numbers_of_report = REPORT_BYTES / BYTES_OF_NUMBER;
+                    let run = read.and_then(|member| paper.run(&member, numbers_of_report, numbers_of_report));
                     answer(run, &mut report, &mut reply)
                 }));
             }

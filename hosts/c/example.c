@@ -6,9 +6,6 @@
 #include "sample.h"
 #include "stratelyn.h"
 
-static const double list[] = {2,   1,    240e3, 120e3, 0,   0,  100, 2, 1, 28e6, 3.5e6, 4e6,  3, 128,    1024,
-                              0,   1,    0,     24,    24,  0,  0,   0, 3, 744,  0,     8784, 0, 438000, 0};
-
 static uint64_t number(const uint8_t *bytes, size_t at) {
   uint64_t n = 0;
   for (size_t i = 8; i > 0; i--) n = n << 8 | bytes[8 * at + i - 1];

@@ -41,8 +41,10 @@ static int runs(size_t report_length, size_t scratch_length, size_t reply_length
   struct guarded report = guarded(report_length), scratch = guarded(scratch_length), reply = guarded(reply_length);
   uint64_t refused = stratelyn_run_card((const uint8_t *)card, sizeof card - 1, report.bytes, report.length, scratch.bytes,
                                         scratch.length, reply.bytes, reply.length);
-  uint64_t due = reply_length < 64 || report_length < DUE || scratch_length < DUE ? STRATELYN_BUFFER : STRATELYN_ACCEPTED;
-  int fine = refused == due && kept(report, refused ? 0 : DUE) && kept(scratch, 0) && kept(reply, reply_length < 64 ? 0 : 64);
+  int replies = reply_length >= STRATELYN_REPLY_BYTES;
+  uint64_t due = replies && report_length >= DUE && scratch_length >= DUE ? STRATELYN_ACCEPTED : STRATELYN_BUFFER;
+  int fine = refused == due && kept(report, refused ? 0 : DUE) && kept(scratch, 0);
+  fine = fine && kept(reply, replies ? STRATELYN_REPLY_BYTES : 0);
   free(report.all), free(scratch.all), free(reply.all);
   return fine;
 }
@@ -50,8 +52,8 @@ static int runs(size_t report_length, size_t scratch_length, size_t reply_length
 int main(void) {
   size_t passed = 0, failed = 0;
   for (size_t length = 0; length <= MOST; length++) {
-    *(runs(length, MOST, 64) ? &passed : &failed) += 1;
-    *(runs(MOST, length, 64) ? &passed : &failed) += 1;
+    *(runs(length, MOST, STRATELYN_REPLY_BYTES) ? &passed : &failed) += 1;
+    *(runs(MOST, length, STRATELYN_REPLY_BYTES) ? &passed : &failed) += 1;
     *(runs(length, length, length) ? &passed : &failed) += 1;
   }
   printf("%zu passed, %zu failed\n", passed, failed);

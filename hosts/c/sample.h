@@ -1,4 +1,4 @@
-/* Document 01's sample beam, as the text of a card. */
+/* Document 01's sample beam, as the text of a card and as a list of doubles. tools/stored_answers.py --write writes it. */
 #ifndef SAMPLE_H
 #define SAMPLE_H
 
@@ -12,5 +12,15 @@ static const char card[] =
     "           744             0\n"
     "          8784             0\n"
     "        438000             0\n";
+
+static const double list[] = {
+    2, 1, 240000, 120000, 0, 0, 100,
+    2, 1, 28000000, 3500000, 4000000, 3,
+    128, 1024, 0, 1, 0,
+    24, 24, 0, 0, 0, 3,
+    744, 0,
+    8784, 0,
+    438000, 0,
+};
 
 #endif

@@ -37,10 +37,23 @@ mod core {
 /// Ticks to a psi.
 pub const TICKS_PER_PSI: f64 = 1024.0;
 
-/// The most ages that a member has, and the bytes of an age in report and scratch.
+/// Bytes of a number; the numbers of a reply, and of an age in report and scratch.
+const BYTES_OF_NUMBER: usize = 8;
+const NUMBERS_OF_REPLY: usize = 8;
+const NUMBERS_OF_AGE: usize = 4;
+
+/// The most ages that a member has, the bytes of an age in report and scratch, and those of a reply.
 pub const MOST_AGES: usize = 64;
-pub const BYTES_PER_AGE: usize = 32;
-pub const REPLY_BYTES: usize = 64;
+pub const BYTES_PER_AGE: usize = BYTES_OF_NUMBER * NUMBERS_OF_AGE;
+pub const REPLY_BYTES: usize = BYTES_OF_NUMBER * NUMBERS_OF_REPLY;
+
+/// Columns of a card's field, the fields of its lines 1, 2 and 3, and which one of line 4 counts the ages.
+const COLUMNS: usize = 14;
+const FIELDS_OF_LINES: [usize; 3] = [7, 6, 5];
+const AGES_ON_LINE_4: usize = 6;
+
+/// The fields before the count of ages.
+const FIELDS_BEFORE_AGES: usize = FIELDS_OF_LINES[0] + FIELDS_OF_LINES[1] + FIELDS_OF_LINES[2] + AGES_ON_LINE_4 - 1;
 
 /// The entry for a card, over bytes, as C hosts call it. Returns the refusal's number, or 0.
 pub fn run_card_bytes(card: &[u8], report: &mut [u8], scratch: &mut [u8], reply: &mut [u8]) -> u64 {
@@ -119,7 +132,7 @@ pub struct Run {
 }
 
 fn number(bytes: &[u8], at: usize) -> u64 {
-    u64::from_le_bytes(bytes[8 * at..8 * at + 8].try_into().expect("eight bytes"))
+    u64::from_le_bytes(bytes[BYTES_OF_NUMBER * at..][..BYTES_OF_NUMBER].try_into().expect("eight bytes"))
 }
 
 fn psi(ticks: u64) -> f64 {
@@ -153,9 +166,10 @@ fn run(call: impl Fn(&mut [u8], &mut [u8], &mut [u8]) -> u64, ages: impl Fn() ->
     })
 }
 
-/// Field 24 of an accepted card: the last 14 columns of line 4, whose line feed is byte 339.
+/// How many ages an accepted card has. A line feed ends each line before.
 fn ages_of_card(card: &[u8]) -> usize {
-    std::str::from_utf8(&card[325..339]).ok().and_then(|text| text.trim().parse().ok()).unwrap_or(0)
+    let start = COLUMNS * FIELDS_BEFORE_AGES + FIELDS_OF_LINES.len();
+    std::str::from_utf8(&card[start..start + COLUMNS]).ok().and_then(|text| text.trim().parse().ok()).unwrap_or(0)
 }
 
 /// Runs a card, as text.
@@ -166,5 +180,5 @@ pub fn run_card(card: &[u8]) -> Result<Run, Refusal> {
 /// Runs a list of doubles, in units: feet, inches, psi, inch-pounds, hours.
 pub fn run_list(list: &[f64]) -> Result<Run, Refusal> {
     let bytes: Vec<u8> = list.iter().flat_map(|x| x.to_bits().to_le_bytes()).collect();
-    run(|report, scratch, reply| run_list_bytes(&bytes, report, scratch, reply), || list[23] as usize)
+    run(|report, scratch, reply| run_list_bytes(&bytes, report, scratch, reply), || list[FIELDS_BEFORE_AGES] as usize)
 }

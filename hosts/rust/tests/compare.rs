@@ -3,9 +3,18 @@
 
 mod paper;
 
-use paper::{in_ticks, read_card, read_list, Paper, Reading, Refusal, Run};
+use paper::Field::*;
+use paper::{age, head_lines, in_ticks, read_card, read_list, refused, segment, Field, Paper, Reading, Refusal, Run};
+use paper::{ACCELERATED, AGE_FIELDS, BEND, CODES, COLUMNS, FIRST_CODE, HEAD_FIELDS, LAST_CODE, LEAST_AGES, LEAST_TRANSFER};
+use paper::{LEAST_TRANSFER_IF_MOIST, LIFE, MOIST, MOST_AGES, MOST_CURING_IF_MOIST, MOST_SEGMENTS, MOST_STRENGTH, MOST_TRANSFER};
+use paper::{PARABOLA, POST_TENSIONED, PRETENSIONED, RANGES, ROW_NUMBERS, SCRATCH_NUMBERS_OF_AGE, SEGMENT_FIELDS, STRAIGHT, TICKS};
+use stratelyn::REPLY_BYTES;
 
 const CASES: usize = 200_000;
+const BYTES_OF_NUMBER: usize = 8;
+
+/// An answer is accepted, 0, or one of the refusals.
+const ANSWERS: usize = refused::LAST as usize + 1;
 
 /// Numbers that look random, from a fixed seed.
 struct Random(u64);
@@ -39,88 +48,119 @@ impl Random {
     }
 }
 
-/// The ends of each field's range, by its number.
-const RANGES: [(usize, u64, u64); 20] = [
-    (1, 1, 2), (2, 1, 2), (3, 100_000, 300_000), (5, 0, 20_000), (6, 0, 2048), (7, 1024, 2_097_152), (8, 1, 2), (9, 1, 2),
-    (10, 20_000_000, 32_000_000), (11, 1_000_000, 8_000_000), (12, 1_000_000, 8_000_000), (13, 1024, 65_536),
-    (14, 1024, 1 << 24), (15, 1024, 1 << 34), (16, 0, 65_536), (17, 1, 65_536), (18, 0, 1 << 40), (20, 1, 960),
-    (21, 0, 2000), (22, 0, 400_000),
-];
+/// The ends at which fields are tried: ranges, codes, and the transfer hour.
+fn edges() -> Vec<(Field, u64, u64)> {
+    let codes = CODES.map(|field| (field, FIRST_CODE, LAST_CODE));
+    [&RANGES[..], &codes, &[(Transfer, LEAST_TRANSFER, MOST_TRANSFER)]].concat()
+}
+
+/// The head of a member that is often accepted.
+fn head(r: &mut Random) -> Vec<u64> {
+    let kind = r.between(PRETENSIONED, POST_TENSIONED);
+    let moist = r.one_in(2);
+    let earliest = if moist { LEAST_TRANSFER_IF_MOIST } else { LEAST_TRANSFER };
+    let latest_curing = if moist { MOST_CURING_IF_MOIST } else { MOST_TRANSFER };
+    let transfer = r.between(earliest, if kind == PRETENSIONED { latest_curing } else { MOST_TRANSFER });
+    let strength = r.between(100_000, MOST_STRENGTH);
+    let area = r.between(1 << 14, 1 << 22);
+    let mut fields = vec![0; HEAD_FIELDS];
+    let mut set = |field: Field, number: u64| fields[field.at()] = number;
+    set(Kind, kind);
+    set(Steel, r.between(FIRST_CODE, LAST_CODE));
+    set(UltimateStrength, strength);
+    set(JackingStress, strength * r.between(30, 80) / 100);
+    set(DeflectorLoss, if kind == PRETENSIONED && r.one_in(3) { r.below(5000) } else { 0 });
+    set(Slip, r.pick(&[0, 0, 64, 256, 384, 1024]));
+    set(Length, r.between(20_480, 2_097_152));
+    set(Cure, if moist { MOIST } else { ACCELERATED });
+    set(Concrete, r.between(FIRST_CODE, LAST_CODE));
+    set(Es, r.between(24_000_000, 30_000_000));
+    set(Eci, r.between(2_000_000, 8_000_000));
+    set(Ec, r.between(2_000_000, 8_000_000));
+    set(VolumeToSurface, r.between(1024, 10_240));
+    set(Area, area);
+    set(Inertia, r.between(1 << 20, 1 << 33));
+    set(Eccentricity, r.below(20_000));
+    set(SteelArea, r.between(1, area / 100));
+    set(OwnWeightMoment, r.below(1 << 34));
+    set(EndOfCuring, if kind == PRETENSIONED { transfer } else { r.between(0, transfer.min(MOST_CURING_IF_MOIST)) });
+    set(Transfer, transfer);
+    set(Wobble, r.below(400));
+    set(Curvature, r.below(250_000));
+    let no_path = kind == PRETENSIONED || r.one_in(3);
+    set(Segments, if no_path { 0 } else if r.one_in(8) { MOST_SEGMENTS } else { r.below(8) });
+    set(Ages, if r.one_in(8) { MOST_AGES } else { r.between(LEAST_AGES, 12) });
+    fields
+}
 
 /// The fields of a member that is often accepted.
 fn member(r: &mut Random) -> Vec<u64> {
-    let kind = r.between(1, 2);
-    let moist = r.one_in(2);
-    let strength = r.between(100_000, 300_000);
-    let s = if kind == 1 || r.one_in(3) { 0 } else if r.one_in(8) { 64 } else { r.below(8) };
-    let n = if r.one_in(8) { 64 } else { r.between(3, 12) };
-    let transfer = if moist { r.between(72, 960) } else { r.between(1, 960) };
-    let curing = if kind == 1 { transfer.min(if moist { 168 } else { 960 }) } else { r.between(0, transfer.min(168)) };
-    let transfer = if kind == 1 { curing.max(if moist { 72 } else { 1 }) } else { transfer };
-    let curing = if kind == 1 { transfer } else { curing };
-    let area = r.between(1 << 14, 1 << 22);
-    let inertia = r.between(1 << 20, 1 << 33);
-    let mut f = vec![
-        kind, r.between(1, 2), strength, strength * r.between(30, 80) / 100,
-        if kind == 1 && r.one_in(3) { r.below(5000) } else { 0 }, r.pick(&[0, 0, 64, 256, 384, 1024]), r.between(20_480, 2_097_152),
-        if moist { 1 } else { 2 }, r.between(1, 2), r.between(24_000_000, 30_000_000), r.between(2_000_000, 8_000_000),
-        r.between(2_000_000, 8_000_000), r.between(1024, 10_240),
-        area, inertia, r.below(20_000), r.between(1, area / 100), r.below(1 << 34),
-        curing, transfer, r.below(400), r.below(250_000), s, n,
-    ];
-    for _ in 0..s {
-        match r.between(1, 3) {
-            1 => f.extend([1, r.between(1, 65_536), 0]),
-            2 => f.extend([2, r.between(8192, 131_072), r.below(2048)]),
-            _ => f.extend([3, 0, r.below(200)]),
+    let mut f = head(r);
+    let (segments, ages) = (f[Segments.at()], f[Ages.at()]);
+    for _ in 0..segments {
+        f.extend(match r.pick(&[STRAIGHT, PARABOLA, BEND]) {
+            STRAIGHT => segment(STRAIGHT, r.between(1, 65_536), 0),
+            PARABOLA => segment(PARABOLA, r.between(8192, 131_072), r.below(2048)),
+            _ => segment(BEND, 0, r.below(200)),
+        });
+    }
+    let mut hour = f[Transfer.at()];
+    let to_the_end = r.one_in(2);
+    for later in (0..ages).rev() {
+        let left = LIFE - hour - (later + 1);
+        hour += 1 + r.below((left / (later + 1)).max(1));
+        if to_the_end && later == 0 {
+            hour = LIFE;
         }
-    }
-    let mut hour = transfer;
-    for i in 0..n {
-        let left = 438_000 - hour - (n - i);
-        hour += 1 + r.below((left / (n - i)).max(1));
-        f.extend([hour, if r.one_in(3) { r.below(1 << 32) } else { 0 }]);
-    }
-    if r.one_in(2) {
-        let last = f.len() - 2;
-        f[last] = 438_000;
+        f.extend(age(hour, if r.one_in(3) { r.below(1 << 32) } else { 0 }));
     }
     f
 }
 
 /// Puts some fields at or just past an end, or anywhere.
-fn disturb(r: &mut Random, f: &mut [u64]) {
+fn disturb(r: &mut Random, edges: &[(Field, u64, u64)], f: &mut [u64]) {
     for _ in 0..r.pick(&[0, 0, 1, 1, 1, 2, 3]) {
         if r.one_in(3) {
             let at = r.below(f.len() as u64) as usize;
-            f[at] = r.pick(&[0, 1, 2, 3, 4, 1023, 1024, 4096, 4097, 65_536, 65_537, 438_000, 438_001, (1 << 40) - 1, 1 << 40]);
+            f[at] = r.pick(&[0, 1, 2, 3, 4, 1023, 1024, 4096, 4097, 65_536, 65_537, LIFE, LIFE + 1, (1 << 40) - 1, 1 << 40]);
         } else {
-            let (field, low, high) = r.pick(&RANGES);
-            f[field - 1] = r.pick(&[low, high, high + 1, low.saturating_sub(1)]);
+            let (field, low, high) = r.pick(edges);
+            f[field.at()] = r.pick(&[low, high, high + 1, low.saturating_sub(1)]);
         }
     }
 }
 
-fn card_text(r: &mut Random, f: &[u64]) -> Vec<u8> {
-    let mut text = String::new();
-    let mut at = 0;
-    let s = f[22].min(70) as usize;
-    let mut counts = vec![7, 6, 5, 6];
-    counts.extend(vec![3; s]);
-    while at < f.len() {
-        let count = if counts.is_empty() { 2 } else { counts.remove(0) };
-        for k in 0..count {
-            match f.get(at + k) {
-                Some(5) if at + k == 5 => text += "              ",
-                Some(v) if r.one_in(50) => text += &format!("{v:014}"),
-                Some(v) => text += &format!("{v:14}"),
-                None => {}
-            }
-        }
-        text.push('\n');
-        at += count;
+/// A field's columns: digits behind spaces, or, rarely, behind zeros; the slip is blank at times.
+fn columns(r: &mut Random, at: usize, number: u64) -> String {
+    if at == Slip.at() && r.one_in(20) {
+        return " ".repeat(COLUMNS);
     }
-    let mut bytes = text.into_bytes();
+    if r.one_in(50) { format!("{number:0COLUMNS$}") } else { format!("{number:COLUMNS$}") }
+}
+
+/// The fields in lines: those of the head, of as many segments as it says, and of ages as far as there are fields.
+fn lines_of(r: &mut Random, f: &[u64]) -> String {
+    let mut text = String::new();
+    let (mut at, mut line) = (0, 0);
+    let segments = f[Segments.at()].min(MOST_SEGMENTS + 6) as usize;
+    let head = head_lines();
+    while at < f.len() {
+        let count = match line {
+            _ if line < head.len() => head[line],
+            _ if line < head.len() + segments => SEGMENT_FIELDS,
+            _ => AGE_FIELDS,
+        };
+        let end = f.len().min(at + count);
+        (at..end).for_each(|i| text += &columns(r, i, f[i]));
+        text.push('\n');
+        at = end;
+        line += 1;
+    }
+    text
+}
+
+fn card_text(r: &mut Random, f: &[u64]) -> Vec<u8> {
+    let mut bytes = lines_of(r, f).into_bytes();
     if r.one_in(4) {
         for _ in 0..r.between(1, 3) {
             let at = r.below(bytes.len() as u64) as usize;
@@ -142,13 +182,13 @@ fn card_text(r: &mut Random, f: &[u64]) -> Vec<u8> {
 }
 
 fn list_bits(r: &mut Random, f: &[u64]) -> Vec<u64> {
-    let s = f[22] as usize;
+    let segments = f[Segments.at()] as usize;
     let mut list: Vec<u64> = f
         .iter()
         .enumerate()
         .map(|(i, &v)| {
-            let field = i + 1;
-            let x = if in_ticks(field, s) { (v as f64 + if r.one_in(2) { 0.25 } else { 0.0 }) / 1024.0 } else { v as f64 };
+            let part = if r.one_in(2) { 0.25 } else { 0.0 };
+            let x = if in_ticks(i + 1, segments) { (v as f64 + part) / TICKS as f64 } else { v as f64 };
             x.to_bits()
         })
         .collect();
@@ -176,16 +216,17 @@ fn list_bits(r: &mut Random, f: &[u64]) -> Vec<u64> {
     list
 }
 
-/// A buffer's length: what the member needs, a little less or more, or anything.
-fn room(r: &mut Random, ages: u64) -> usize {
-    let due = 32 * ages.min(70);
+/// A buffer's length, if an age needs so many numbers: what the member needs, a little less or more, or anything.
+fn room(r: &mut Random, numbers_of_age: usize, ages: u64) -> usize {
+    let number = BYTES_OF_NUMBER as u64;
+    let due = number * numbers_of_age as u64 * ages.min(MOST_AGES + 6);
     let length = match r.below(10) {
         0 => due.saturating_sub(1),
-        1 => due.saturating_sub(8),
-        2 => due + r.below(8),
+        1 => due.saturating_sub(number),
+        2 => due + r.below(number),
         3 => 0,
         4 => r.below(3000),
-        _ => due + r.below(40),
+        _ => due + r.below(5 * number),
     };
     length as usize
 }
@@ -202,8 +243,9 @@ struct Buffers {
 
 impl Buffers {
     fn new(r: &mut Random, ages: u64) -> Self {
-        let (report, scratch) = (room(r, ages), room(r, ages));
-        let reply = if r.one_in(20) { r.below(64) } else { 64 + r.below(12) } as usize;
+        let (report, scratch) = (room(r, ROW_NUMBERS, ages), room(r, SCRATCH_NUMBERS_OF_AGE, ages));
+        let due = REPLY_BYTES as u64;
+        let reply = if r.one_in(20) { r.below(due) } else { due + r.below(12) } as usize;
         Buffers { report: r.fill(report), scratch: r.fill(scratch), reply: r.fill(reply) }
     }
 }
@@ -211,25 +253,26 @@ impl Buffers {
 /// Compares what a call left and returned with what the paper gives.
 fn compare(what: &str, returned: u64, was: &Buffers, now: &Buffers, due: Result<Run, Refusal>) {
     assert_eq!(now.scratch, was.scratch, "{what}: scratch");
-    if was.reply.len() < 64 {
-        assert_eq!(returned, 10, "{what}: short reply");
+    if was.reply.len() < REPLY_BYTES {
+        assert_eq!(returned, refused::BUFFER, "{what}: short reply");
         assert_eq!((&now.reply, &now.report), (&was.reply, &was.report), "{what}: short reply");
         return;
     }
-    assert_eq!(now.reply[64..], was.reply[64..], "{what}: past the reply");
+    assert_eq!(now.reply[REPLY_BYTES..], was.reply[REPLY_BYTES..], "{what}: past the reply");
     match due {
         Err((number, place)) => {
             assert_eq!(returned, number, "{what}: refusal, due {number} at {place}");
-            assert_eq!(now.reply[..64], numbers(&[place, 0, 0, 0, 0, 0, 0, 0]), "{what}: place, due {number} at {place}");
+            let mut reply = numbers(&[place]);
+            reply.resize(REPLY_BYTES, 0);
+            assert_eq!(now.reply[..REPLY_BYTES], reply, "{what}: place, due {number} at {place}");
             assert_eq!(now.report, was.report, "{what}: report of a refusal");
         }
         Ok(run) => {
             assert_eq!(returned, 0, "{what}: accepted");
-            let last = run.rows.last().expect("an age")[3] as f64 / 1024.0;
             let mut reply = vec![0];
             reply.extend(run.before);
-            reply.push(last.to_bits());
-            assert_eq!(now.reply[..64], numbers(&reply), "{what}: reply");
+            reply.push(run.last_stress().to_bits());
+            assert_eq!(now.reply[..REPLY_BYTES], numbers(&reply), "{what}: reply");
             let rows = numbers(&run.rows.concat());
             assert_eq!(now.report[..rows.len()], rows, "{what}: rows");
             assert_eq!(now.report[rows.len()..], was.report[rows.len()..], "{what}: past the rows");
@@ -241,14 +284,15 @@ fn copy(b: &Buffers) -> Buffers {
     Buffers { report: b.report.clone(), scratch: b.scratch.clone(), reply: b.reply.clone() }
 }
 
-/// How many cases gave each refusal; the tests would show little if one never came up.
-fn tally(counts: &mut [usize; 11], due: &Result<Run, Refusal>) {
+/// How many cases gave each refusal.
+fn tally(counts: &mut [usize; ANSWERS], due: &Result<Run, Refusal>) {
     counts[due.as_ref().err().map_or(0, |&(number, _)| number as usize)] += 1;
 }
 
-fn seen(counts: [usize; 11], unseen: usize) {
+/// The tests would show little if a refusal never came up, but for `unseen`, which cannot.
+fn seen(counts: [usize; ANSWERS], unseen: Option<u64>) {
     println!("accepted {}, refused {:?}", counts[0], &counts[1..]);
-    for (number, count) in counts.iter().enumerate().filter(|&(number, _)| number != unseen) {
+    for (number, count) in counts.iter().enumerate().filter(|&(number, _)| Some(number as u64) != unseen) {
         assert!(*count > 20, "refusal {number} came up {count} times");
     }
 }
@@ -256,21 +300,24 @@ fn seen(counts: [usize; 11], unseen: usize) {
 /// Runs every case through an entry: `input` gives its bytes, and what the paper reads of them.
 fn run_cases(
     seed: u64,
-    unseen: usize,
+    unseen: Option<u64>,
     input: impl Fn(&mut Random, &[u64]) -> (Vec<u8>, Reading),
     entry: impl Fn(&[u8], &mut Buffers) -> u64,
 ) {
     let paper = Paper::new();
+    let edges = edges();
     let mut r = Random(seed);
-    let mut counts = [0; 11];
+    let mut counts = [0; ANSWERS];
     for case in 0..CASES {
         let mut f = member(&mut r);
-        disturb(&mut r, &mut f);
+        disturb(&mut r, &edges, &mut f);
         let (bytes, reading) = input(&mut r, &f);
-        let was = Buffers::new(&mut r, f[23]);
+        let was = Buffers::new(&mut r, f[Ages.at()]);
         let mut now = copy(&was);
         let returned = entry(&bytes, &mut now);
-        let due = reading.and_then(|(f, s, n)| paper.run(&f, s, n, was.report.len() / 8, was.scratch.len() / 8));
+        let due = reading.and_then(|member| {
+            paper.run(&member, was.report.len() / BYTES_OF_NUMBER, was.scratch.len() / BYTES_OF_NUMBER)
+        });
         tally(&mut counts, &due);
         compare(&format!("case {case}"), returned, &was, &now, due);
     }
@@ -284,7 +331,7 @@ fn cards() {
         let reading = read_card(&card);
         (card, reading)
     };
-    run_cases(0x5EED_0001_CA4D, 9, input, |card, now| {
+    run_cases(0x5EED_0001_CA4D, Some(refused::DOUBLE), input, |card, now| {
         stratelyn::run_card_bytes(card, &mut now.report, &mut now.scratch, &mut now.reply)
     });
 }
@@ -295,13 +342,13 @@ fn lists() {
         let list = list_bits(r, f);
         let mut bytes = numbers(&list);
         if r.one_in(30) {
-            let more = r.between(1, 7) as usize;
+            let more = r.between(1, BYTES_OF_NUMBER as u64 - 1) as usize;
             bytes.extend(r.fill(more));
-            return (bytes, Err((8, 0)));
+            return (bytes, Err((refused::SHAPE, 0)));
         }
         (bytes, read_list(&list))
     };
-    run_cases(0x5EED_0002_1157, 11, input, |list, now| {
+    run_cases(0x5EED_0002_1157, None, input, |list, now| {
         stratelyn::run_list_bytes(list, &mut now.report, &mut now.scratch, &mut now.reply)
     });
 }

@@ -3,22 +3,251 @@
 
 #![allow(dead_code)]
 
+use Field::*;
+
+// ---- the table of fields
+
+/// The fields of a card's head, in document 01's order and by its numbers.
+#[derive(Debug, Clone, Copy, PartialEq, Eq)]
+pub enum Field {
+    Kind = 1,
+    Steel,
+    UltimateStrength,
+    JackingStress,
+    DeflectorLoss,
+    Slip,
+    Length,
+    Cure,
+    Concrete,
+    Es,
+    Eci,
+    Ec,
+    VolumeToSurface,
+    Area,
+    Inertia,
+    Eccentricity,
+    SteelArea,
+    OwnWeightMoment,
+    EndOfCuring,
+    Transfer,
+    Wobble,
+    Curvature,
+    Segments,
+    Ages,
+}
+
+impl Field {
+    pub const fn number(self) -> usize {
+        self as usize
+    }
+
+    /// Where it stands among the fields, the first being 0.
+    pub const fn at(self) -> usize {
+        self as usize - 1
+    }
+}
+
+/// The last field of each line of the head.
+const LAST_OF_LINES: [Field; 4] = [Length, VolumeToSurface, OwnWeightMoment, Ages];
+pub const HEAD_LINES: usize = LAST_OF_LINES.len();
+pub const HEAD_FIELDS: usize = LAST_OF_LINES[HEAD_LINES - 1].number();
+
+/// The fields of a segment and of an age.
+#[derive(Debug, Clone, Copy)]
+pub enum OfSegment {
+    Kind,
+    Length,
+    Rise,
+}
+
+#[derive(Debug, Clone, Copy)]
+pub enum OfAge {
+    Hour,
+    Moment,
+}
+
+pub const SEGMENT_FIELDS: usize = 3;
+pub const AGE_FIELDS: usize = 2;
+
+/// A segment's fields, for who makes a card or a list.
+pub fn segment(kind: u64, length: u64, rise: u64) -> [u64; SEGMENT_FIELDS] {
+    [kind, length, rise]
+}
+
+/// An age's fields, for who makes a card or a list.
+pub fn age(hour: u64, moment: u64) -> [u64; AGE_FIELDS] {
+    [hour, moment]
+}
+
+/// The codes of kind, cure and concrete; steel's first, and a segment's.
+pub const PRETENSIONED: u64 = 1;
+pub const POST_TENSIONED: u64 = 2;
+pub const STRESS_RELIEVED: u64 = 1;
+pub const MOIST: u64 = 1;
+pub const ACCELERATED: u64 = 2;
+pub const NORMAL: u64 = 1;
+pub const STRAIGHT: u64 = 1;
+pub const PARABOLA: u64 = 2;
+pub const BEND: u64 = 3;
+
+/// The fields that have a code, 1 or 2.
+pub const CODES: [Field; 4] = [Kind, Steel, Cure, Concrete];
+pub const FIRST_CODE: u64 = 1;
+pub const LAST_CODE: u64 = 2;
+
+/// The ends of each field's range. The jacking stress is at most 0.80 F beside, the deflector loss 0 if post-tensioned.
+pub const RANGES: [(Field, u64, u64); 18] = [
+    (UltimateStrength, 100_000, MOST_STRENGTH),
+    (JackingStress, 1000, MOST_STRENGTH * 8 / 10),
+    (DeflectorLoss, 0, 20_000),
+    (Slip, 0, 2048),
+    (Length, 1024, 2_097_152),
+    (Es, 20_000_000, 32_000_000),
+    (Eci, 1_000_000, 8_000_000),
+    (Ec, 1_000_000, 8_000_000),
+    (VolumeToSurface, 1024, 65_536),
+    (Area, 1024, 1 << 24),
+    (Inertia, 1024, 1 << 34),
+    (Eccentricity, 0, 65_536),
+    (SteelArea, 1, 65_536),
+    (OwnWeightMoment, 0, MOST_MOMENTS),
+    (Wobble, 0, 2000),
+    (Curvature, 0, 400_000),
+    (Segments, 0, MOST_SEGMENTS),
+    (Ages, LEAST_AGES, MOST_AGES),
+];
+pub const MOST_STRENGTH: u64 = 300_000;
+pub const MOST_MOMENTS: u64 = 1 << 40;
+pub const MOST_SEGMENTS: u64 = 64;
+pub const LEAST_AGES: u64 = 3;
+pub const MOST_AGES: u64 = 64;
+pub const LEAST_TRANSFER: u64 = 1;
+pub const LEAST_TRANSFER_IF_MOIST: u64 = 72;
+pub const MOST_TRANSFER: u64 = 960;
+pub const MOST_CURING_IF_MOIST: u64 = 168;
+pub const LIFE: u64 = 438_000;
+const MOST_X: u128 = 5_033_164;
+const MOST_KAPPA: u128 = 1 << 30;
+const MOST_CREEP: u128 = 1 << 56;
+const LEAST_STRESS: u128 = 1000 * TICKS;
+
+/// The fields of the head that are kept in ticks.
+const IN_TICKS: [Field; 8] = [Slip, Length, VolumeToSurface, Area, Inertia, Eccentricity, SteelArea, OwnWeightMoment];
+
+/// Columns of a card's field, and what a blank slip reads.
+pub const COLUMNS: usize = 14;
+const BLANK_SLIP: u64 = 256;
+
+/// How many fields each line of the head has.
+pub fn head_lines() -> [usize; HEAD_LINES] {
+    let mut before = 0;
+    LAST_OF_LINES.map(|last| last.number() - std::mem::replace(&mut before, last.number()))
+}
+
+/// How many fields each line of a card has.
+pub fn lines(segments: usize, ages: usize) -> Vec<usize> {
+    [&head_lines()[..], &vec![SEGMENT_FIELDS; segments], &vec![AGE_FIELDS; ages]].concat()
+}
+
+/// The number of a field of a segment, and of an age, the first being 0.
+fn number_in_segment(segment: usize, field: OfSegment) -> usize {
+    HEAD_FIELDS + 1 + SEGMENT_FIELDS * segment + field as usize
+}
+
+fn number_in_age(segments: usize, age: usize, field: OfAge) -> usize {
+    HEAD_FIELDS + 1 + SEGMENT_FIELDS * segments + AGE_FIELDS * age + field as usize
+}
+
+/// Whether the field of a number is kept in ticks, or is whole.
+pub fn in_ticks(number: usize, segments: usize) -> bool {
+    if number <= HEAD_FIELDS {
+        return IN_TICKS.iter().any(|field| field.number() == number);
+    }
+    let behind_head = number - HEAD_FIELDS - 1;
+    if behind_head < SEGMENT_FIELDS * segments {
+        return behind_head % SEGMENT_FIELDS != OfSegment::Kind as usize;
+    }
+    (behind_head - SEGMENT_FIELDS * segments) % AGE_FIELDS != OfAge::Hour as usize
+}
+
+// ---- answers
+
 /// A refusal's number and place.
 pub type Refusal = (u64, u64);
 
-/// What a reader gives: the fields, with the counts of segments and ages.
-pub type Reading = Result<(Vec<u64>, usize, usize), Refusal>;
+/// The refusals' numbers.
+pub mod refused {
+    pub const CODE: u64 = 1;
+    pub const RANGE: u64 = 2;
+    pub const HOURS: u64 = 3;
+    pub const DUCT: u64 = 4;
+    pub const SECTION: u64 = 5;
+    pub const CREEP: u64 = 6;
+    pub const STRESS: u64 = 7;
+    pub const SHAPE: u64 = 8;
+    pub const DOUBLE: u64 = 9;
+    pub const BUFFER: u64 = 10;
+    pub const LAST: u64 = BUFFER;
+}
 
-/// An accepted run: five losses and the stress before the ages, then creep, shrinkage, relaxation and stress for each age.
+/// A card or a list as it is read: all its fields, by their numbers less 1.
+#[derive(Debug, Clone, PartialEq)]
+pub struct Member(pub Vec<u64>);
+
+impl Member {
+    fn field(&self, field: Field) -> u128 {
+        u128::from(self.0[field.at()])
+    }
+
+    pub fn segments(&self) -> usize {
+        self.0[Segments.at()] as usize
+    }
+
+    pub fn ages(&self) -> usize {
+        self.0[Ages.at()] as usize
+    }
+
+    fn segment(&self, segment: usize, field: OfSegment) -> u128 {
+        u128::from(self.0[number_in_segment(segment, field) - 1])
+    }
+
+    fn age(&self, age: usize, field: OfAge) -> u128 {
+        u128::from(self.0[number_in_age(self.segments(), age, field) - 1])
+    }
+
+    pub fn hour(&self, age: usize) -> u64 {
+        self.age(age, OfAge::Hour) as u64
+    }
+}
+
+pub type Reading = Result<Member, Refusal>;
+
+/// The losses before the ages and the stress after them; and creep, shrinkage, relaxation and stress of an age.
+pub const BEFORE_NUMBERS: usize = 6;
+pub const ROW_NUMBERS: usize = 4;
+pub const ROW_STRESS: usize = 3;
+
+/// Numbers of scratch that an age needs.
+pub const SCRATCH_NUMBERS_OF_AGE: usize = ROW_NUMBERS;
+
+/// An accepted run.
 #[derive(Debug, Clone, PartialEq)]
 pub struct Run {
-    pub before: [u64; 6],
-    pub rows: Vec<[u64; 4]>,
+    pub before: [u64; BEFORE_NUMBERS],
+    pub rows: Vec<[u64; ROW_NUMBERS]>,
+}
+
+impl Run {
+    /// The last stress in psi.
+    pub fn last_stress(&self) -> f64 {
+        self.rows.last().expect("an age")[ROW_STRESS] as f64 / TICKS as f64
+    }
 }
 
 const T: u128 = 1 << 24;
-const TICKS: u128 = 1024;
-const LIFE: u128 = 438_000;
+pub const TICKS: u128 = 1024;
+const MILLION: u128 = 1_000_000;
+const DAY: u128 = 24;
 
 // ---- numbers of any size, for the thresholds
 
@@ -43,21 +272,25 @@ fn at_most(a: &[u32], b: &[u32]) -> bool {
     a.len() < b.len() || (a.len() == b.len() && a.iter().rev().le(b.iter().rev()))
 }
 
-/// h to the 256th: eight squarings.
-fn to_the_256th(h: u32) -> Vec<u32> {
-    (0..8).fold(vec![h], |x, _| times(&x, &x))
+/// L(h) is the largest k with 10^k at most h to this power, a power of 2.
+const POWER: u32 = 256;
+
+/// h to that power, by squarings.
+fn to_the_power(h: u32) -> Vec<u32> {
+    (0..POWER.ilog2()).fold(vec![h], |x, _| times(&x, &x))
 }
 
-/// The smallest hour that reaches each k, as far as the service life needs.
+/// The smallest hour that reaches each k, up to the first one past the service life.
 fn thresholds() -> Vec<u32> {
     let mut ten = vec![1u32];
-    let mut table = Vec::new();
-    for k in 0..=1445 {
-        let mut hour = (10f64.powf(f64::from(k) / 256.0).floor() as u32).max(1);
-        while hour > 1 && at_most(&ten, &to_the_256th(hour - 1)) {
+    let mut table: Vec<u32> = Vec::new();
+    while table.last().is_none_or(|&hour| u64::from(hour) <= LIFE) {
+        let k = table.len() as f64;
+        let mut hour = (10f64.powf(k / f64::from(POWER)).floor() as u32).max(1);
+        while hour > 1 && at_most(&ten, &to_the_power(hour - 1)) {
             hour -= 1;
         }
-        while !at_most(&ten, &to_the_256th(hour)) {
+        while !at_most(&ten, &to_the_power(hour)) {
             hour += 1;
         }
         table.push(hour);
@@ -101,10 +334,10 @@ fn along(rows: &[Row], step: u128, end: Option<Row>, unit: u128, x: u128) -> u12
 
 // ---- reading
 
-fn card_field(columns: &[u8], field: usize) -> Option<u64> {
+fn card_field(columns: &[u8], number: usize) -> Option<u64> {
     let spaces = columns.iter().take_while(|&&b| b == b' ').count();
-    if spaces == 14 {
-        return if field == 6 { Some(256) } else { None };
+    if spaces == COLUMNS {
+        return if number == Slip.number() { Some(BLANK_SLIP) } else { None };
     }
     let digits = &columns[spaces..];
     if digits.iter().all(u8::is_ascii_digit) {
@@ -114,7 +347,13 @@ fn card_field(columns: &[u8], field: usize) -> Option<u64> {
     }
 }
 
-/// Fields with the counts of segments and ages.
+/// Counts are ranged while the shape is read.
+fn check_count(field: Field, count: u64) -> Result<usize, Refusal> {
+    let (_, least, most) = RANGES.into_iter().find(|&(of, ..)| of == field).expect("a count has a range");
+    check((least..=most).contains(&count), refused::RANGE, field.number())?;
+    Ok(count as usize)
+}
+
 pub fn read_card(card: &[u8]) -> Reading {
     let mut fields = Vec::new();
     let mut at = 0;
@@ -122,33 +361,25 @@ pub fn read_card(card: &[u8]) -> Reading {
     let mut read = |counts: &[usize], fields: &mut Vec<u64>| -> Result<usize, Refusal> {
         for &count in counts {
             line += 1;
-            let width = 14 * count + 1;
-            let text = card.get(at..at + width).ok_or((8, line))?;
+            let width = COLUMNS * count + 1;
+            let text = card.get(at..at + width).ok_or((refused::SHAPE, line))?;
             if text[width - 1] != b'\n' {
-                return Err((8, line));
+                return Err((refused::SHAPE, line));
             }
-            for columns in text[..width - 1].chunks(14) {
-                fields.push(card_field(columns, fields.len() + 1).ok_or((8, line))?);
+            for columns in text[..width - 1].chunks(COLUMNS) {
+                fields.push(card_field(columns, fields.len() + 1).ok_or((refused::SHAPE, line))?);
             }
             at += width;
         }
         Ok(at)
     };
-    read(&[7, 6, 5, 6], &mut fields)?;
-    let (s, n) = (fields[22], fields[23]);
-    if s > 64 {
-        return Err((2, 23));
-    }
-    if !(3..=64).contains(&n) {
-        return Err((2, 24));
-    }
-    let (s, n) = (s as usize, n as usize);
-    read(&vec![3; s], &mut fields)?;
-    let end = read(&vec![2; n], &mut fields)?;
-    if end < card.len() {
-        return Err((8, 4 + s as u64 + n as u64 + 1));
-    }
-    Ok((fields, s, n))
+    read(&head_lines(), &mut fields)?;
+    let segments = check_count(Segments, fields[Segments.at()])?;
+    let ages = check_count(Ages, fields[Ages.at()])?;
+    let lines = lines(segments, ages);
+    let end = read(&lines[HEAD_LINES..], &mut fields)?;
+    check(end == card.len(), refused::SHAPE, lines.len() + 1)?;
+    Ok(Member(fields))
 }
 
 fn double(bits: u64, in_ticks: bool) -> Option<u64> {
@@ -157,43 +388,25 @@ fn double(bits: u64, in_ticks: bool) -> Option<u64> {
         return None;
     }
     if in_ticks {
-        return Some((x * 1024.0).floor() as u64);
+        return Some((x * TICKS as f64).floor() as u64);
     }
     if x.fract() == 0.0 { Some(x as u64) } else { None }
 }
 
-/// Whether a field of a member with `s` segments is kept in ticks, or is whole.
-pub fn in_ticks(field: usize, s: usize) -> bool {
-    match field {
-        6 | 7 | 13..=18 => true,
-        1..=24 => false,
-        _ if field < 25 + 3 * s => (field - 25) % 3 != 0,
-        _ => (field - 25 - 3 * s) % 2 == 1,
-    }
-}
-
 pub fn read_list(list: &[u64]) -> Reading {
-    if list.len() < 24 {
-        return Err((8, 0));
-    }
-    let s = double(list[22], false).ok_or((9, 23))?;
-    if s > 64 {
-        return Err((2, 23));
-    }
-    let n = double(list[23], false).ok_or((9, 24))?;
-    if !(3..=64).contains(&n) {
-        return Err((2, 24));
-    }
-    let (s, n) = (s as usize, n as usize);
-    if list.len() != 24 + 3 * s + 2 * n {
-        return Err((8, 0));
-    }
+    check(list.len() >= HEAD_FIELDS, refused::SHAPE, 0)?;
+    let count = |field: Field| {
+        let count = double(list[field.at()], false).ok_or((refused::DOUBLE, field.number() as u64))?;
+        check_count(field, count)
+    };
+    let (segments, ages) = (count(Segments)?, count(Ages)?);
+    check(list.len() == lines(segments, ages).iter().sum(), refused::SHAPE, 0)?;
     let mut fields = Vec::new();
     for (i, &bits) in list.iter().enumerate() {
-        let field = i + 1;
-        fields.push(double(bits, in_ticks(field, s)).ok_or((9, field as u64))?);
+        let number = i + 1;
+        fields.push(double(bits, in_ticks(number, segments)).ok_or((refused::DOUBLE, number as u64))?);
     }
-    Ok((fields, s, n))
+    Ok(Member(fields))
 }
 
 fn check(holds: bool, number: u64, place: usize) -> Result<(), Refusal> {
@@ -210,138 +423,137 @@ impl Paper {
         (self.thresholds.partition_point(|&t| u128::from(t) <= hour) - 1) as u128
     }
 
-    pub fn run(&self, fields: &[u64], s: usize, n: usize, report: usize, scratch: usize) -> Result<Run, Refusal> {
-        let f = |k: usize| u128::from(fields[k - 1]);
-        let segment = |i: usize| (f(25 + 3 * i), f(26 + 3 * i), f(27 + 3 * i));
-        let first_age = 25 + 3 * s;
-        let age = |i: usize| (f(first_age + 2 * i), f(first_age + 1 + 2 * i));
-        let (kind, steel, cure, concrete) = (f(1), f(2), f(8), f(9));
+    pub fn run(&self, member: &Member, report: usize, scratch: usize) -> Result<Run, Refusal> {
+        let f = |field: Field| member.field(field);
+        let (segments, ages) = (member.segments(), member.ages());
+        let code = |field: Field| member.0[field.at()];
+        let (kind, steel, concrete) = (code(Kind), code(Steel), code(Concrete));
+        let moist = code(Cure) == MOIST;
+        let segment_kind = |i: usize| member.segment(i, OfSegment::Kind) as u64;
 
-        for k in [1, 2, 8, 9] {
-            check((1..=2).contains(&f(k)), 1, k)?;
+        for field in CODES {
+            check((FIRST_CODE..=LAST_CODE).contains(&code(field)), refused::CODE, field.number())?;
         }
-        for i in 0..s {
-            check((1..=3).contains(&segment(i).0), 1, 25 + 3 * i)?;
+        for i in 0..segments {
+            let listed = [STRAIGHT, PARABOLA, BEND].contains(&segment_kind(i));
+            check(listed, refused::CODE, number_in_segment(i, OfSegment::Kind))?;
         }
 
-        check((100_000..=300_000).contains(&f(3)), 2, 3)?;
-        check(f(4) >= 1000 && 10 * f(4) <= 8 * f(3), 2, 4)?;
-        check(f(5) <= 20_000 && (kind == 1 || f(5) == 0), 2, 5)?;
-        check(f(6) <= 2048, 2, 6)?;
-        check((1024..=2_097_152).contains(&f(7)), 2, 7)?;
-        check((20_000_000..=32_000_000).contains(&f(10)), 2, 10)?;
-        check((1_000_000..=8_000_000).contains(&f(11)), 2, 11)?;
-        check((1_000_000..=8_000_000).contains(&f(12)), 2, 12)?;
-        check((1024..=65_536).contains(&f(13)), 2, 13)?;
-        check((1024..=1 << 24).contains(&f(14)), 2, 14)?;
-        check((1024..=1 << 34).contains(&f(15)), 2, 15)?;
-        check(f(16) <= 65_536, 2, 16)?;
-        check((1..=65_536).contains(&f(17)), 2, 17)?;
-        check(f(18) <= 1 << 40, 2, 18)?;
-        check(f(21) <= 2000, 2, 21)?;
-        check(f(22) <= 400_000, 2, 22)?;
-        for i in 0..s {
-            let (kind, length, rise) = segment(i);
-            let (long, high) = match kind {
-                1 => ((1..=2_097_152).contains(&length), rise == 0),
-                2 => ((1024..=2_097_152).contains(&length), rise <= 65_536),
+        for (field, least, most) in RANGES {
+            let within = match field {
+                JackingStress => 10 * f(JackingStress) <= 8 * f(UltimateStrength),
+                DeflectorLoss => kind == PRETENSIONED || f(DeflectorLoss) == 0,
+                _ => true,
+            };
+            let number = f(field);
+            check(u128::from(least) <= number && number <= u128::from(most) && within, refused::RANGE, field.number())?;
+        }
+        for i in 0..segments {
+            let (length, rise) = (member.segment(i, OfSegment::Length), member.segment(i, OfSegment::Rise));
+            let (long, high) = match segment_kind(i) {
+                STRAIGHT => ((1..=2_097_152).contains(&length), rise == 0),
+                PARABOLA => ((1024..=2_097_152).contains(&length), rise <= 65_536),
                 _ => (length == 0, rise <= 4096),
             };
-            check(long, 2, 26 + 3 * i)?;
-            check(high, 2, 27 + 3 * i)?;
+            check(long, refused::RANGE, number_in_segment(i, OfSegment::Length))?;
+            check(high, refused::RANGE, number_in_segment(i, OfSegment::Rise))?;
         }
-        let mut moments = f(18);
-        for i in 0..n {
-            moments += age(i).1;
-            check(moments <= 1 << 40, 2, first_age + 1 + 2 * i)?;
+        let mut moments = f(OwnWeightMoment);
+        for i in 0..ages {
+            moments += member.age(i, OfAge::Moment);
+            check(moments <= u128::from(MOST_MOMENTS), refused::RANGE, number_in_age(segments, i, OfAge::Moment))?;
         }
 
-        let (curing, transfer) = (f(19), f(20));
-        let moist = cure == 1;
-        check(curing <= transfer && (kind == 2 || curing == transfer) && (!moist || curing <= 168), 3, 19)?;
-        check((if moist { 72..=960 } else { 1..=960 }).contains(&transfer), 3, 20)?;
+        let (curing, transfer) = (f(EndOfCuring), f(Transfer));
+        let in_order = curing <= transfer && (kind == POST_TENSIONED || curing == transfer);
+        let in_time = !moist || curing <= u128::from(MOST_CURING_IF_MOIST);
+        check(in_order && in_time, refused::HOURS, EndOfCuring.number())?;
+        let earliest = u128::from(if moist { LEAST_TRANSFER_IF_MOIST } else { LEAST_TRANSFER });
+        check(earliest <= transfer && transfer <= u128::from(MOST_TRANSFER), refused::HOURS, Transfer.number())?;
         let mut last = transfer;
-        for i in 0..n {
-            check(age(i).0 > last && age(i).0 <= LIFE, 3, first_age + 2 * i)?;
-            last = age(i).0;
+        let life = u128::from(LIFE);
+        for i in 0..ages {
+            let hour = member.age(i, OfAge::Hour);
+            check(last < hour && hour <= life, refused::HOURS, number_in_age(segments, i, OfAge::Hour))?;
+            last = hour;
         }
 
-        check(kind == 2 || s == 0, 4, 1)?;
+        check(kind == POST_TENSIONED || segments == 0, refused::DUCT, 1)?;
         let mut x = 0;
-        for i in 0..s {
-            let (kind, length, rise) = segment(i);
-            x += f(21) * length * T / (1024 * 1_000_000);
-            x += match kind {
-                2 => f(22) * 2 * rise * T / (length * 1_000_000),
-                3 => f(22) * rise * T / (1024 * 1_000_000),
+        for i in 0..segments {
+            let (length, rise) = (member.segment(i, OfSegment::Length), member.segment(i, OfSegment::Rise));
+            x += f(Wobble) * length * T / (TICKS * MILLION);
+            x += match segment_kind(i) {
+                PARABOLA => f(Curvature) * 2 * rise * T / (length * MILLION),
+                BEND => f(Curvature) * rise * T / (TICKS * MILLION),
                 _ => 0,
             };
         }
-        check(x <= 5_033_164, 4, 2)?;
+        check(x <= MOST_X, refused::DUCT, 2)?;
 
-        check(report >= 4 * n, 10, 1)?;
-        check(scratch >= 4 * n, 10, 2)?;
+        check(report >= ROW_NUMBERS * ages, refused::BUFFER, 1)?;
+        check(scratch >= SCRATCH_NUMBERS_OF_AGE * ages, refused::BUFFER, 2)?;
 
-        let (es, eci, ec) = (f(10), f(11), f(12));
-        let (area, inertia, eccentricity, steel_area) = (f(14), f(15), f(16), f(17));
+        let (es, eci, ec) = (f(Es), f(Eci), f(Ec));
+        let (area, inertia, eccentricity, steel_area) = (f(Area), f(Inertia), f(Eccentricity), f(SteelArea));
         let kappa = (steel_area << 32) / area + 4096 * steel_area * eccentricity * eccentricity / inertia;
-        check(kappa <= 1 << 30, 5, 14)?;
+        check(kappa <= MOST_KAPPA, refused::SECTION, Area.number())?;
 
         let base = match (moist, concrete) {
-            (true, 1) => 95_000_000,
+            (true, NORMAL) => 95_000_000,
             (true, _) => 76_000_000,
             (false, _) => 63_000_000u128,
         };
         let ucr = base.saturating_sub(20 * ec).max(11_000_000);
         let ush = match concrete {
-            1 => 27_000_000_000u128.saturating_sub(3000 * ec),
+            NORMAL => 27_000_000_000u128.saturating_sub(3000 * ec),
             _ => 41_000_000_000u128.saturating_sub(10_000 * ec),
         }
         .max(12_000_000_000);
-        let scf = along(&SCF, 1024, None, 102_400, f(13));
-        let ssf = along(&SSF, 1024, None, 102_400, f(13));
-        let mcf = if moist { along(&MCF, 24, None, 72_000, transfer) } else { 72_000 };
+        let scf = along(&SCF, TICKS, None, 102_400, f(VolumeToSurface));
+        let ssf = along(&SSF, TICKS, None, 102_400, f(VolumeToSurface));
+        let mcf = if moist { along(&MCF, DAY, None, 72_000, transfer) } else { 72_000 };
         let u = ucr * scf * mcf / 439_453_125;
         let shrinkage = ush * ssf / 100_000_000;
-        check(u * kappa <= 1 << 56, 6, 17)?;
+        check(u * kappa <= MOST_CREEP, refused::CREEP, SteelArea.number())?;
 
         let lose = |stress: u128, loss: u128, place: usize| {
             let left = stress.saturating_sub(loss);
-            check(left >= 1000 * TICKS, 7, place).map(|()| left)
+            check(left >= LEAST_STRESS, refused::STRESS, place).map(|()| left)
         };
         let (d, y) = match steel {
-            1 => (2560, 85 * f(3) * TICKS / 100),
-            _ => (11_520, 90 * f(3) * TICKS / 100),
+            STRESS_RELIEVED => (2560, 85 * f(UltimateStrength) * TICKS / 100),
+            _ => (11_520, 90 * f(UltimateStrength) * TICKS / 100),
         };
         let relax = |stress: u128, logarithms: u128| {
             let q = (stress * T / y).saturating_sub(55 * T / 100).max(5 * T / 100);
             stress * logarithms / d * q / T
         };
-        let tensioning = if kind == 1 { 0 } else { transfer };
+        let tensioning = if kind == PRETENSIONED { 0 } else { transfer };
         let log = |hour: u128| self.logarithm((hour - tensioning).max(1));
         let c = |stress: u128, moments: u128| {
             (stress * kappa >> 32).saturating_sub(moments * eccentricity / inertia)
         };
 
-        let jacked = f(4) * TICKS;
+        let jacked = f(JackingStress) * TICKS;
         let friction = jacked * x / T;
         let mut stress = lose(jacked, friction, 0)?;
-        let slip = es * f(6) * 1024 / (12 * f(7));
+        let slip = es * f(Slip) * TICKS / (12 * f(Length));
         stress = lose(stress, slip, 0)?;
-        let deflector = f(5) * TICKS;
+        let deflector = f(DeflectorLoss) * TICKS;
         stress = lose(stress, deflector, 0)?;
-        let early = if kind == 1 { relax(stress, log(transfer)) } else { 0 };
+        let early = if kind == PRETENSIONED { relax(stress, log(transfer)) } else { 0 };
         stress = lose(stress, early, 0)?;
-        let shortening = es * c(stress, f(18)) / (eci + (es * kappa >> 32));
+        let shortening = es * c(stress, f(OwnWeightMoment)) / (eci + (es * kappa >> 32));
         stress = lose(stress, shortening, 0)?;
         let before = [friction, slip, deflector, early, shortening, stress].map(|v| v as u64);
 
-        let creep_share = |hour: u128| along(&CREEP, 24, Some((LIFE - transfer, 100)), T, hour - transfer);
-        let shrinkage_share = |hour: u128| along(&SHRINKAGE, 24, Some((LIFE - curing, 100)), T, hour - curing);
+        let creep_share = |hour: u128| along(&CREEP, DAY, Some((life - transfer, 100)), T, hour - transfer);
+        let shrinkage_share = |hour: u128| along(&SHRINKAGE, DAY, Some((life - curing, 100)), T, hour - curing);
         let mut rows = Vec::new();
-        let (mut start, mut moments) = (transfer, f(18));
-        for i in 0..n {
-            let (hour, moment) = age(i);
+        let (mut start, mut moments) = (transfer, f(OwnWeightMoment));
+        for i in 0..ages {
+            let hour = member.age(i, OfAge::Hour);
             let w = u * (creep_share(hour) - creep_share(start)) / T;
             let creep = w * c(stress, moments) / T;
             let shrinks = shrinkage * (shrinkage_share(hour) - shrinkage_share(start)) / T;
@@ -349,7 +561,7 @@ impl Paper {
             stress = lose(stress, creep + shrinks + relaxes, i + 1)?;
             rows.push([creep, shrinks, relaxes, stress].map(|v| v as u64));
             start = hour;
-            moments += moment;
+            moments += member.age(i, OfAge::Moment);
         }
         Ok(Run { before, rows })
     }

@@ -1,4 +1,4 @@
-"""What the tools that hold the stored text share: a count of what holds, and files that are compared or, with --write, written."""
+"""What the tools share: a count of what holds, and files that are compared or, with --write, written."""
 import sys
 
 if sys.argv[1:] not in ([], ["--write"]):

@@ -1,56 +1,54 @@
-#!/usr/bin/env python3
-"""Holds crates/examples/stdout, what the program `examples` must print, to tools/paper.py, and every number of the tables of
-docs/EXAMPLES.md to the answers; with --write, writes crates/examples/stdout. Its last line is 'N passed, M failed'.
+"""The text that the program `examples` must print, by tools/paper.py, and every number of the tables of docs/EXAMPLES.md beside the
+answers.
 """
 import re
 from math import exp
 from pathlib import Path
 
 import paper
-from stored import Checks
+from paper import ACCELERATED, DAY, LIGHTWEIGHT, MOIST, NORMAL, POST_TENSIONED, PRETENSIONED
 
 ROOT = Path(__file__).resolve().parent.parent
 CRATE = ROOT / "crates" / "examples"
 DOCUMENT = (ROOT / "docs" / "EXAMPLES.md").read_text()
-DAY = 24
 
 CARDS = (
     "double_tee double_tee_fpy_230 double_tee_after_transfer slab slab_as_printed slab_cured_seven_days slab_shrinkage "
     "slab_fpy_235 slab_friction box_girder_b box_girder_c box_girder_d box_girder_e box_girder_f box_girder_g"
 ).split()
 
-# Columns of an answer: before the ages, and in an age's line.
-FRICTION, EARLY_RELAXATION, SHORTENING, STRESS = 0, 3, 4, 5
-CREEP, SHRINKAGE, RELAXATION = 2, 3, 4
+# The line of an answer before the ages; the ages' lines follow, numbered from 1.
+BEFORE = 0
 
-# The rows of a table: the quantity, its column, the lines of the plain card's answer that it sums, the matched card and its line.
+# The rows of a table: the quantity, its name in tools/paper.py, the lines of the plain card's answer that it sums, the matched card and
+# its line.
 DOUBLE_TEE = [
-    ("relaxation to transfer", EARLY_RELAXATION, [0], "double_tee_fpy_230", 0),
-    ("shortening", SHORTENING, [0], "double_tee_fpy_230", 0),
-    ("stress after transfer", STRESS, [0], "double_tee_fpy_230", 0),
-    ("creep, stage 2", CREEP, [1], "double_tee_after_transfer", 1),
-    ("shrinkage, stage 2", SHRINKAGE, [1], "double_tee_after_transfer", 1),
-    ("relaxation, stage 2", RELAXATION, [1], "double_tee_fpy_230", 1),
-    ("stress, end of stage 2", STRESS, [1], "double_tee_after_transfer", 1),
-    ("shrinkage, stage 3", SHRINKAGE, [2], "double_tee_after_transfer", 2),
-    ("shrinkage, stage 4, to 40 years", SHRINKAGE, [3], None, None),
-    ("the same, to the end of life", SHRINKAGE, [3, 4], "double_tee_after_transfer", 3),
+    ("relaxation to transfer", "early_relaxation", [BEFORE], "double_tee_fpy_230", BEFORE),
+    ("shortening", "shortening", [BEFORE], "double_tee_fpy_230", BEFORE),
+    ("stress after transfer", "stress", [BEFORE], "double_tee_fpy_230", BEFORE),
+    ("creep, stage 2", "creep", [1], "double_tee_after_transfer", 1),
+    ("shrinkage, stage 2", "shrinkage", [1], "double_tee_after_transfer", 1),
+    ("relaxation, stage 2", "relaxation", [1], "double_tee_fpy_230", 1),
+    ("stress, end of stage 2", "stress", [1], "double_tee_after_transfer", 1),
+    ("shrinkage, stage 3", "shrinkage", [2], "double_tee_after_transfer", 2),
+    ("shrinkage, stage 4, to 40 years", "shrinkage", [3], None, None),
+    ("the same, to the end of life", "shrinkage", [3, 4], "double_tee_after_transfer", 3),
 ]
 SLAB = [
-    ("shortening", SHORTENING, [0], None, None),
-    ("stress after shortening", STRESS, [0], "slab_as_printed", 0),
-    ("relaxation, stage 1", RELAXATION, [1], "slab_as_printed", 1),
-    ("creep, stage 1", CREEP, [1], "slab_as_printed", 1),
-    ("shrinkage, stage 1", SHRINKAGE, [1], "slab_shrinkage", 1),
-    ("stress, end of stage 1", STRESS, [1], "slab_as_printed", 1),
-    ("relaxation, stage 2", RELAXATION, [2], "slab_fpy_235", 2),
-    ("creep, stage 2", CREEP, [2], "slab_as_printed", 2),
-    ("shrinkage, stage 2", SHRINKAGE, [2], "slab_shrinkage", 2),
-    ("stress, end of stage 2", STRESS, [2], "slab_as_printed", 2),
-    ("relaxation, stage 3", RELAXATION, [3], "slab_fpy_235", 3),
-    ("creep, stage 3", CREEP, [3], "slab_as_printed", 3),
-    ("shrinkage, stage 3", SHRINKAGE, [3], "slab_shrinkage", 3),
-    ("last stress", STRESS, [3], "slab_as_printed", 3),
+    ("shortening", "shortening", [BEFORE], None, None),
+    ("stress after shortening", "stress", [BEFORE], "slab_as_printed", BEFORE),
+    ("relaxation, stage 1", "relaxation", [1], "slab_as_printed", 1),
+    ("creep, stage 1", "creep", [1], "slab_as_printed", 1),
+    ("shrinkage, stage 1", "shrinkage", [1], "slab_shrinkage", 1),
+    ("stress, end of stage 1", "stress", [1], "slab_as_printed", 1),
+    ("relaxation, stage 2", "relaxation", [2], "slab_fpy_235", 2),
+    ("creep, stage 2", "creep", [2], "slab_as_printed", 2),
+    ("shrinkage, stage 2", "shrinkage", [2], "slab_shrinkage", 2),
+    ("stress, end of stage 2", "stress", [2], "slab_as_printed", 2),
+    ("relaxation, stage 3", "relaxation", [3], "slab_fpy_235", 3),
+    ("creep, stage 3", "creep", [3], "slab_as_printed", 3),
+    ("shrinkage, stage 3", "shrinkage", [3], "slab_shrinkage", 3),
+    ("last stress", "stress", [3], "slab_as_printed", 3),
 ]
 
 # Document 002's jacking stress in ksi, and how far X and the stress by equation 1 may lie from its own.
@@ -66,8 +64,8 @@ def shares(rows):
     return [[hour, paper.share(rows, life, hour)] for hour in hours + [life, life + 1]]
 
 
-def clocks(kind, curing, transfer):
-    return [[hour, *paper.clocks(kind, curing, transfer, hour)] for hour in (transfer, transfer + 1, paper.LIFE)]
+def clocks(kind, end_of_curing, transfer):
+    return [[hour, *paper.clocks(kind, end_of_curing, transfer, hour)] for hour in (transfer, transfer + 1, paper.LIFE)]
 
 
 def readings():
@@ -79,15 +77,16 @@ def readings():
     transfers = sorted([DAY * d for d in days] + [DAY * (a + b) // 2 for a, b in zip(days, days[1:])])
     moduli = (1000000, 2600000, 2900000, 3250000, 4200000, 5000000, 8000000)
     names = "hour, hours since transfer, end of curing, tensioning"
-    coefficients = lambda ec: [paper.ucr(*cure, ec) for cure in ((1, 1), (1, 2), (2, 1))] + [paper.ush(k, ec) for k in (1, 2)]
+    creeping = ((MOIST, NORMAL), (MOIST, LIGHTWEIGHT), (ACCELERATED, NORMAL))
+    coefficients = lambda ec: [paper.ucr(*of, ec) for of in creeping] + [paper.ush(of, ec) for of in (NORMAL, LIGHTWEIGHT)]
     return [
         ("hour, logarithm", [[h, paper.logarithm(h)] for h in hours]),
-        ("hours since transfer, creep share", shares(paper.CREEP)),
-        ("hours since the end of curing, shrinkage share", shares(paper.SHRINKAGE)),
-        ("pretensioned: " + names, clocks(1, 18, 18)),
-        ("post-tensioned: " + names, clocks(2, 72, 96)),
+        ("hours since transfer, creep share", shares(paper.CREEP_SHARES)),
+        ("hours since the end of curing, shrinkage share", shares(paper.SHRINKAGE_SHARES)),
+        ("pretensioned: " + names, clocks(PRETENSIONED, 18, 18)),
+        ("post-tensioned: " + names, clocks(POST_TENSIONED, 72, 96)),
         ("volume/surface, SCF, SSF", [[v, *(paper.size_factor(rows, v) for rows in (paper.SCF, paper.SSF))] for v in sizes]),
-        ("transfer, MCF if moist, MCF if accelerated", [[h, paper.mcf(1, h), paper.mcf(2, h)] for h in transfers]),
+        ("transfer, MCF if moist, MCF if accelerated", [[h, paper.mcf(MOIST, h), paper.mcf(ACCELERATED, h)] for h in transfers]),
         (
             "Ec, UCR moist normal, moist lightweight, accelerated, USH normal, lightweight",
             [[ec, *coefficients(ec)] for ec in moduli],
@@ -111,24 +110,24 @@ def says(cell, value):
     return float("%.*f" % (len(cell.rstrip(" %").partition(".")[2]), value)) == number(cell)
 
 
-def psi(answer, line, column):
-    return answer[line][column] / paper.TICKS
+def psi(answer, line, name):
+    return getattr(answer[line], name) / paper.TICKS
 
 
 def compare(checks, answers, heading, plain_card, quantities):
     """A table of document 001: psi in the document, by the plain card, by the matched one, and the tolerance of that."""
     rows = table(heading)
     checks.hold([row[0] for row in rows] == [quantity[0] for quantity in quantities], "the quantities under " + heading)
-    for row, (quantity, column, lines, matched_card, line) in zip(rows, quantities):
+    for row, (quantity, name, lines, matched_card, line) in zip(rows, quantities):
         document, where = number(row[1]), "%s, %s: " % (heading, quantity)
-        plain = sum(psi(answers[plain_card], line, column) for line in lines)
+        plain = sum(psi(answers[plain_card], line, name) for line in lines)
         checks.hold(says(row[2], plain), where + "plain, %f" % plain)
         percent = 100 * (plain - document) / document
         checks.hold(not row[3] or says(row[3], percent), where + "plain differs by %f %%" % percent)
         if matched_card is None:
             checks.hold(row[4:7] == ["", "", ""], where + "no card is matched")
             continue
-        matched = psi(answers[matched_card], line, column)
+        matched = psi(answers[matched_card], line, name)
         checks.hold(says(row[4], matched), where + "matched, %f" % matched)
         checks.hold(says(row[5], matched - document), where + "matched differs by %f" % (matched - document))
         checks.hold(abs(matched - document) <= sum(map(number, row[6].split("+"))), where + "tolerance")
@@ -138,7 +137,7 @@ def compare_friction(checks, answers):
     """Document 002's table, and the friction of the slab."""
     heading = "Document 002, example 1"
     for point, document_x, x_cell, document_stress, by_2_cell, percent_cell, by_1_cell in table(heading):
-        x = psi(answers["box_girder_" + point.lower()], 0, FRICTION) / (1000 * JACKING_STRESS)
+        x = psi(answers["box_girder_" + point.lower()], BEFORE, "friction") / (1000 * JACKING_STRESS)
         by_1, by_2 = JACKING_STRESS * exp(-x), JACKING_STRESS * (1 - x)
         percent = 100 * (by_2 / number(document_stress) - 1)
         for cell, value in ((x_cell, x), (by_2_cell, by_2), (percent_cell, percent), (by_1_cell, by_1)):
@@ -147,21 +146,23 @@ def compare_friction(checks, answers):
         checks.hold(abs(by_1 - number(document_stress)) <= KSI_TOLERANCE, "%s, %s: the stress's tolerance" % (heading, point))
     slab = re.search(r"hence ([\d,]+) psi by equation 2; `slab_friction` gives ([\d,.]+) \(tolerance (\d+)", DOCUMENT)
     document, cell, tolerance = slab.groups()
-    ours = psi(answers["slab_friction"], 0, FRICTION)
+    ours = psi(answers["slab_friction"], BEFORE, "friction")
     checks.hold(says(cell, ours), "the slab's friction, %f" % ours)
     checks.hold(abs(ours - number(document)) <= number(tolerance), "the slab's friction: tolerance")
 
 
-def main():
-    checks = Checks()
-    answers = {name: paper.card_rows((CRATE / "data" / (name + ".card")).read_bytes()) for name in CARDS}
+def answers_of_cards():
+    return {name: paper.card_rows((CRATE / "data" / (name + ".card")).read_bytes()) for name in CARDS}
+
+
+def text(answers):
+    """What the program prints: each card's answer below its name, then the readings."""
     parts = [(name + ".card", rows) for name, rows in answers.items()] + readings()
-    text = "".join(title + "\n" + "".join(map(paper.line_of, rows)) for title, rows in parts)
-    checks.file(CRATE / "stdout", text.encode())
+    return "".join(title + "\n" + "".join(map(paper.line_of, rows)) for title, rows in parts)
+
+
+def compare_all(checks, answers):
+    """Every number of the document's tables beside the answers."""
     compare(checks, answers, "Document 001, design example 1", "double_tee", DOUBLE_TEE)
     compare(checks, answers, "Document 001, design example 3", "slab", SLAB)
     compare_friction(checks, answers)
-    checks.end()
-
-
-main()

@@ -1,0 +1,94 @@
+"""What the C hosts take from tools/paper.py: the members that they run, the text that hosts/c/example.c must print, and the header's
+sizes.
+"""
+import re
+from pathlib import Path
+
+import layout
+import paper
+
+ROOT = Path(__file__).resolve().parent.parent
+HOSTS = ROOT / "hosts" / "c"
+HEADER = ROOT / "include" / "stratelyn.h"
+BYTES_OF_NUMBER = 8
+
+MEMBER = """/* %(what)s, as the text of a card and as a list of doubles. tools/stored_answers.py --write writes it. */
+#ifndef %(guard)s_H
+#define %(guard)s_H
+
+#define AGES %(ages)d
+
+static const char card[] =
+%(card)s;
+
+static const double list[] = {
+%(list)s
+};
+
+#endif
+"""
+
+
+def member_text(guard, what, card):
+    """A header with a member."""
+    head, *_ = paper.read_card(card)
+    lines = card.decode().splitlines()
+    doubles = [", ".join("%.17g" % double for double in line) for line in layout.list_of(card)]
+    return MEMBER % {
+        "what": what,
+        "guard": guard,
+        "ages": head.ages,
+        "card": "\n".join('    "%s\\n"' % line for line in lines),
+        "list": "\n".join("    %s," % line for line in doubles),
+    }
+
+
+def psi(ticks):
+    return ticks / paper.TICKS
+
+
+def example_text(card):
+    """What hosts/c/example.c prints: the sample as a card and as a list, which give the same, then the card without its last byte."""
+    before, *ages = paper.card_rows(card)
+    run = "shortening %.3f psi, %.3f psi before the ages\n" % (psi(before.shortening), psi(before.stress))
+    for age in ages:
+        losses = (psi(age.creep), psi(age.shrinkage), psi(age.relaxation), psi(age.stress))
+        run += "  age %d: creep %.3f, shrinkage %.3f, relaxation %.3f, stress %.3f psi\n" % (age.age, *losses)
+    run += "  last stress %.10f psi\n" % psi(ages[-1].stress)
+    (refusal,) = paper.card_rows(card[:-1])
+    return "card: " + run + "list: " + run + "cut card: refused %d at %d\n" % refusal
+
+
+def header_sizes():
+    """The header's sizes, by their names without STRATELYN_. A size may be computed from those above it."""
+    sizes = {}
+    for name, size in re.findall(r"#define (STRATELYN_\w+) (.+)", HEADER.read_text().replace("\\\n", "")):
+        sizes[name] = eval(size, {}, sizes)
+    return {name.removeprefix("STRATELYN_"): size for name, size in sizes.items()}
+
+
+def hold_sizes(checks, longest):
+    """The header's sizes are those of the table of fields, of the longest card, and of the room of an age."""
+    sizes = header_sizes()
+    for name, due in (
+        ("COLUMNS_PER_FIELD", paper.COLUMNS),
+        ("HEAD_LINES", len(paper.LINES)),
+        ("HEAD_FIELDS", len(paper.HEAD)),
+        ("FIELDS_PER_SEGMENT", len(paper.SEGMENT)),
+        ("FIELDS_PER_AGE", len(paper.AGE)),
+        ("MOST_SEGMENTS", paper.MOST_SEGMENTS),
+        ("MOST_AGES", paper.MOST_AGES),
+        ("BYTES_PER_AGE", BYTES_OF_NUMBER * paper.REPORT_NUMBERS_OF_AGE),
+        ("REPLY_BYTES", BYTES_OF_NUMBER * len(("place", *paper.BEFORE_AGES, "last stress"))),
+        ("MOST_CARD_BYTES", len(longest)),
+        ("MOST_LIST_BYTES", BYTES_OF_NUMBER * len(sum(layout.list_of(longest), []))),
+        ("TICKS_PER_PSI", paper.TICKS),
+    ):
+        checks.hold(sizes.get(name) == due, "STRATELYN_%s in include/stratelyn.h is %d" % (name, due))
+
+
+def hold(checks, sample, longest):
+    checks.file(HOSTS / "sample.h", member_text("SAMPLE", "Document 01's sample beam", sample).encode())
+    checks.file(HOSTS / "longest.h", member_text("LONGEST", "The longest card that is accepted", longest).encode())
+    checks.file(HOSTS / "example.out", example_text(sample).encode())
+    hold_sizes(checks, longest)
