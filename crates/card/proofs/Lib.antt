@@ -1,4 +1,3 @@
 pub mod Laws
 pub mod Behind
-mod Lines
 mod Outcome

@@ -1,10 +1,9 @@
 -- What the reader of a card leaves at each of its answers: lines 1 to 4, the two counts, the lines that they announce, and what
 -- stands behind. Each group of lines is what `readLines-append` says of it. Assumes nothing.
-use mathlib.Core.Path.{_≡_, refl, sym, ap, _∙_}
+use mathlib.Core.Path.{_≡_, sym, ap, _∙_}
 use mathlib.Core.Bool.{cond}
-use mathlib.Core.List.{List, _∷_, _++_}
-use Prim.Native.Nat.{ℕ, zero, suc, _+_, _-_, _*_, _≤_, _<_}
-use native.Mathlib.Nat.{add-comm, mul-zero, mul-suc, le-of-suc-le-suc}
+use mathlib.Core.List.{List, _++_}
+use Prim.Native.Nat.{ℕ, _+_, _-_, _*_, _≤_, _<_}
 use native.Mathlib.Omega.{arith}
 use lib.Dec.{ltb}
 use lib.ListN.{length, getD, take, drop, replicate, length-drop, length-replicate, List·getD-append}
@@ -13,42 +12,30 @@ use borrow.Rule.Slice.PartMut.{midOf, putMid}
 use Rattle.fields.specs.declared.refusal.Refusal.the-variants.{Shape, Ranges}
 use Rattle.fields.specs.declared.refusal.Reading.{Reading}
 use Rattle.fields.specs.declared.refusal.Reading.the-variants.{Fields, Not}
-use Rattle.fields.specs.Layout.{segmentsField, agesField, mostSegments, leastAges, mostAges, perSegment, perAge}
-use Rattle.fields.specs.Layout.{headFields, firstSegmentField, mostFields}
-use Rattle.fields.specs.Amounts.{over, Outcome, refused, accepted}
-use Rattle.line.specs.Line.{lineLength}
-use Rattle.card.specs.Card.{Lines, readLines, fieldsOn, bytesOn, headLines, head, firstSegmentLine, lineBehind}
-use Rattle.card.specs.Card.{announcedOf, segmentsIn, agesIn, announced, firstWrong, cardOutcome}
-use Rattle.card.specs.Conditions.{AnnouncedFit}
+use Rattle.fields.specs.Quantities.{segmentsField, agesField, perSegment, perAge, headFields, firstSegmentField}
+use Rattle.fields.specs.Limits.{mostSegments, leastAges, mostAges}
+use Rattle.fields.specs.Sizes.{mostFields}
+use Rattle.fields.specs.Outcomes.{over, Outcome, refused, accepted}
 use Rattle.fields.proofs.Buffers.{length-over, tail, written-behind}
-use Rattle.card.proofs.Lines.{Right, lines-right}
-use Rattle.card.proofs.Lines.{andThen, readLines-append, readLines-stops, LinesRead}
+use Rattle.line.specs.declared.MayBeBlank.{MayBeBlank}
+use Rattle.line.specs.Lines.{lineLength, Lines, readLines, firstWrong}
+use Rattle.line.specs.Conditions.{fieldsOn, bytesOn}
+use Rattle.line.proofs.LineByLine.{Right, lines-right, andThen, readLines-append, readLines-stops, LinesRead}
+use Rattle.line.proofs.LineByLine.{take-replicate, fields-replicate, bytes-replicate}
+use Rattle.card.specs.Card.{headLines, head, firstSegmentLine, lineBehind, announcedOf, segmentsIn, agesIn, announced, outcomeOf}
+use Rattle.card.specs.Conditions.{AnnouncedFit}
 
--- ---- lines of the same count
-
-take-replicate : (n most count : ℕ) → n ≤ most → take n (replicate most count) ≡ replicate n count
-take-replicate zero most count h = refl
-take-replicate (suc n) zero count h = absurd (omega arith)
-take-replicate (suc n) (suc most) count h = ap (λ (l : List ℕ). count ∷ l) (take-replicate n most count (le-of-suc-le-suc h))
-
-pub fields-replicate : (n count : ℕ) → fieldsOn (replicate n count) ≡ count * n
-fields-replicate zero count = sym (mul-zero count)
-fields-replicate (suc n) count = rw (fields-replicate n count, mul-suc) (add-comm count (count * n))
-
+-- the fields on the first lines of some that have the same count
 pub fields-taken : (n most count : ℕ) → n ≤ most → fieldsOn (take n (replicate most count)) ≡ count * n
 fields-taken n most count h = ap fieldsOn (take-replicate n most count h) ∙ fields-replicate n count
-
-pub bytes-replicate : (n count : ℕ) → bytesOn (replicate n count) ≡ lineLength count * n
-bytes-replicate zero count = sym (mul-zero (lineLength count))
-bytes-replicate (suc n) count = rw (bytes-replicate n count, mul-suc) (add-comm (lineLength count) (lineLength count * n))
 
 -- ---- the lines of segments and of ages
 
 -- what the reader of all these lines leaves
-abbrev pub AnnouncedRead : List ℕ → ℕ → ℕ → List ℕ → List ℕ → ℕ → Type 0
-AnnouncedRead part segments ages old now wrong =
-    (wrong ≡ firstWrong (announcedOf segments ages part) (lineBehind segments ages))
-    × (now ≡ over (announcedOf segments ages part .numbers) old)
+abbrev pub AnnouncedRead : MayBeBlank → List ℕ → ℕ → ℕ → List ℕ → List ℕ → ℕ → Type 0
+AnnouncedRead blank part segments ages old now wrong =
+    (wrong ≡ firstWrong (announcedOf blank segments ages part) (lineBehind segments ages))
+    × (now ≡ over (announcedOf blank segments ages part .numbers) old)
 
 -- the bytes of the lines of segments, and their numbers
 abbrev segmentBytes : ℕ → ℕ
@@ -58,33 +45,33 @@ abbrev segmentNumbers : ℕ → ℕ
 segmentNumbers segments = perSegment * segments
 
 -- the lines of segments were read into a buffer
-pub record SegmentsRead (part old : List ℕ) (segments ages wrong : ℕ) (buffer : List ℕ) : Type 0 where
+pub record SegmentsRead (blank : MayBeBlank) (part old : List ℕ) (segments ages wrong : ℕ) (buffer : List ℕ) : Type 0 where
   pub fits : AnnouncedFit segments ages old
-  pub read : LinesRead (readLines (take segments (replicate mostSegments perSegment)) firstSegmentLine firstSegmentField part)
+  pub read : LinesRead (readLines blank (take segments (replicate mostSegments perSegment)) firstSegmentLine firstSegmentField part)
       old buffer wrong
 
 -- then those of ages
-pub record AgesRead (part : List ℕ) (segments ages : ℕ) (buffer : List ℕ) (wrong : ℕ) (after : List ℕ) : Type 0 where
+pub record AgesRead (blank : MayBeBlank) (part : List ℕ) (segments ages : ℕ) (buffer : List ℕ) (wrong : ℕ) (after : List ℕ) : Type 0 where
   pub read : LinesRead
-      (readLines (take ages (replicate mostAges perAge)) (firstSegmentLine + segments)
+      (readLines blank (take ages (replicate mostAges perAge)) (firstSegmentLine + segments)
       (firstSegmentField + segmentNumbers segments)
       (take (length part - segmentBytes segments) (drop (segmentBytes segments) part)))
       (midOf (segmentNumbers segments) (length buffer - segmentNumbers segments) buffer) after wrong
 
-module _ {part old : List ℕ} {segments ages wrong : ℕ} {buffer : List ℕ}
-    (first : SegmentsRead part old segments ages wrong buffer) where
+module _ {blank : MayBeBlank} {part old : List ℕ} {segments ages wrong : ℕ} {buffer : List ℕ}
+    (first : SegmentsRead blank part old segments ages wrong buffer) where
   abbrev ofSegments : Lines
-  ofSegments = readLines (replicate segments perSegment) firstSegmentLine firstSegmentField part
+  ofSegments = readLines blank (replicate segments perSegment) firstSegmentLine firstSegmentField part
 
   segments-read : LinesRead ofSegments old buffer wrong
   segments-read = rw (take-replicate segments mostSegments perSegment (first .fits .segments-most)) at (first .read)
 
-  pub segment-wrong : 0 < wrong → AnnouncedRead part segments ages old buffer wrong
+  pub segment-wrong : 0 < wrong → AnnouncedRead blank part segments ages old buffer wrong
   segment-wrong h =
       let e = segments-read .0 in
       let w : 0 < ofSegments .wrong = omega arith in
-      let stops : announcedOf segments ages part ≡ ofSegments =
-      readLines-stops (replicate segments perSegment) (replicate ages perAge) firstSegmentLine firstSegmentField part w in
+      let stops : announcedOf blank segments ages part ≡ ofSegments =
+      readLines-stops blank (replicate segments perSegment) (replicate ages perAge) firstSegmentLine firstSegmentField part w in
       (e ∙ sym (rw (stops, lt-ltb 0 (ofSegments .wrong) w)), segments-read .1 ∙ rw stops)
 
   module _ (ok : wrong ≤ 0) where
@@ -92,7 +79,7 @@ module _ {part old : List ℕ} {segments ages wrong : ℕ} {buffer : List ℕ}
     no-wrong = let e = segments-read .0 in omega arith
 
     good : Right (replicate segments perSegment) part ofSegments
-    good = lines-right (replicate segments perSegment) firstSegmentLine firstSegmentField part (omega arith) no-wrong
+    good = lines-right blank (replicate segments perSegment) firstSegmentLine firstSegmentField part (omega arith) no-wrong
 
     pub segments-long : segmentBytes segments ≤ length part
     segments-long = let l = good .long in let b = bytes-replicate segments perSegment in omega arith
@@ -106,10 +93,10 @@ module _ {part old : List ℕ} {segments ages wrong : ℕ} {buffer : List ℕ}
         let r = first .fits .room in
         ap length (segments-read .1) ∙ length-over (ofSegments .numbers) old (omega arith)
 
-    module _ {wrong-age : ℕ} {after : List ℕ} (second : AgesRead part segments ages buffer wrong-age after) where
+    module _ {wrong-age : ℕ} {after : List ℕ} (second : AgesRead blank part segments ages buffer wrong-age after) where
       abbrev ofAges : Lines
       ofAges =
-          readLines (replicate ages perAge) (firstSegmentLine + segments) (firstSegmentField + segmentNumbers segments)
+          readLines blank (replicate ages perAge) (firstSegmentLine + segments) (firstSegmentField + segmentNumbers segments)
           (drop (segmentBytes segments) part)
 
       abbrev lentPart : List ℕ
@@ -122,9 +109,9 @@ module _ {part old : List ℕ} {segments ages wrong : ℕ} {buffer : List ℕ}
       ages-read =
           rw (take-replicate ages mostAges perAge (first .fits .ages-most), tail part (segmentBytes segments)) at (second .read)
 
-      all-is : announcedOf segments ages part ≡ andThen ofSegments ofAges
+      all-is : announcedOf blank segments ages part ≡ andThen ofSegments ofAges
       all-is =
-          readLines-append (replicate segments perSegment) (replicate ages perAge) firstSegmentLine firstSegmentField part
+          readLines-append blank (replicate segments perSegment) (replicate ages perAge) firstSegmentLine firstSegmentField part
           (omega arith) no-wrong
           ∙ rw (
             length-replicate segments perSegment,
@@ -133,13 +120,13 @@ module _ {part old : List ℕ} {segments ages wrong : ℕ} {buffer : List ℕ}
             bytes-replicate segments perSegment,
           )
 
-      written-is : written ≡ over (announcedOf segments ages part .numbers) old
+      written-is : written ≡ over (announcedOf blank segments ages part .numbers) old
       written-is =
           written-behind (ofSegments .numbers) (ofAges .numbers) old buffer after (segmentNumbers segments)
           (sym numbers-long) (segments-read .1) (ages-read .1)
           ∙ ap (λ (l : Lines). over (l .numbers) old) (sym all-is)
 
-      pub age-wrong : 0 < wrong-age → AnnouncedRead part segments ages old written wrong-age
+      pub age-wrong : 0 < wrong-age → AnnouncedRead blank part segments ages old written wrong-age
       age-wrong h =
           let e = ages-read .0 in
           let w : 0 < ofAges .wrong = omega arith in
@@ -153,7 +140,7 @@ module _ {part old : List ℕ} {segments ages wrong : ℕ} {buffer : List ℕ}
         rest-long =
             let behind = drop (segmentBytes segments) part in
             let good-ages =
-            lines-right (replicate ages perAge) (firstSegmentLine + segments) (firstSegmentField + segmentNumbers segments) behind
+            lines-right blank (replicate ages perAge) (firstSegmentLine + segments) (firstSegmentField + segmentNumbers segments) behind
             (omega arith) no-wrong-age in
             let b = bytes-replicate ages perAge in
             let l = length-drop (bytesOn (replicate ages perAge)) behind in
@@ -161,13 +148,13 @@ module _ {part old : List ℕ} {segments ages wrong : ℕ} {buffer : List ℕ}
             ap length (good-ages .rest) ∙ (omega arith)
 
         pub bytes-behind : segmentBytes segments + lineLength perAge * ages < length part
-            → AnnouncedRead part segments ages old written (lineBehind segments ages)
+            → AnnouncedRead blank part segments ages old written (lineBehind segments ages)
         bytes-behind h =
             let l = rest-long in
             (sym (rw (all-is, no-wrong-age, lt-ltb 0 (length (ofAges .rest)) (omega arith))), written-is)
 
         pub all-announced : length part ≤ segmentBytes segments + lineLength perAge * ages
-            → AnnouncedRead part segments ages old written 0
+            → AnnouncedRead blank part segments ages old written 0
         all-announced h =
             let l = rest-long in
             (sym (rw (all-is, no-wrong-age, le-ltb 0 (length (ofAges .rest)) (omega arith))), written-is)
@@ -175,12 +162,12 @@ module _ {part old : List ℕ} {segments ages wrong : ℕ} {buffer : List ℕ}
 -- ---- the card
 
 -- what the reader of a card leaves
-abbrev pub CardRead : List ℕ → List ℕ → List ℕ → Reading → Type 0
-CardRead card old now reading = (reading ≡ cardOutcome card .reading) × (now ≡ over (cardOutcome card .numbers) old)
+abbrev pub CardRead : MayBeBlank → List ℕ → List ℕ → List ℕ → Reading → Type 0
+CardRead blank card old now reading = (reading ≡ outcomeOf blank card .reading) × (now ≡ over (outcomeOf blank card .numbers) old)
 
-by : (card old now : List ℕ) (outcome : Outcome) → cardOutcome card ≡ outcome → now ≡ over (outcome .numbers) old
-    → CardRead card old now (outcome .reading)
-by card old now outcome e is =
+by : (blank : MayBeBlank) (card old now : List ℕ) (outcome : Outcome) → outcomeOf blank card ≡ outcome → now ≡ over (outcome .numbers) old
+    → CardRead blank card old now (outcome .reading)
+by blank card old now outcome e is =
     (ap (λ (o : Outcome). o .reading) (sym e), is ∙ ap (λ (o : Outcome). over (o .numbers) old) (sym e))
 
 abbrev headBytes : ℕ
@@ -194,31 +181,31 @@ abbrev agesOf : List ℕ → ℕ
 agesOf buffer = getD buffer (agesField - 1) 0
 
 -- lines 1 to 4 were read into a buffer
-pub record HeadRead (card old : List ℕ) (wrong : ℕ) (buffer : List ℕ) : Type 0 where
+pub record HeadRead (blank : MayBeBlank) (card old : List ℕ) (wrong : ℕ) (buffer : List ℕ) : Type 0 where
   pub room : mostFields ≤ length old
-  pub read : LinesRead (head card) old buffer wrong
+  pub read : LinesRead (head blank card) old buffer wrong
 
-module _ {card old : List ℕ} {wrong : ℕ} {buffer : List ℕ} (first : HeadRead card old wrong buffer) where
-  pub head-wrong : 0 < wrong → CardRead card old buffer (Not (Shape wrong))
-  unfolding cardOutcome
+module _ {blank : MayBeBlank} {card old : List ℕ} {wrong : ℕ} {buffer : List ℕ} (first : HeadRead blank card old wrong buffer) where
+  pub head-wrong : 0 < wrong → CardRead blank card old buffer (Not (Shape wrong))
+  unfolding outcomeOf
   head-wrong h =
       let e = first .read .0 in
-      by card old buffer (refused (Shape wrong) (head card .numbers))
-      (rw (lt-ltb 0 (head card .wrong) (omega arith), e)) (first .read .1)
+      by blank card old buffer (refused (Shape wrong) (head blank card .numbers))
+      (rw (lt-ltb 0 (head blank card .wrong) (omega arith), e)) (first .read .1)
 
   module _ (ok : wrong ≤ 0) where
-    no-wrong-head : head card .wrong ≡ 0
+    no-wrong-head : head blank card .wrong ≡ 0
     no-wrong-head = let e = first .read .0 in omega arith
 
-    good-head : Right headLines card (head card)
-    good-head = lines-right headLines 1 1 card (omega arith) no-wrong-head
+    good-head : Right headLines card (head blank card)
+    good-head = lines-right blank headLines 1 1 card (omega arith) no-wrong-head
 
     pub head-long : headBytes ≤ length card
     head-long = good-head .long
 
-    number-is : (k : ℕ) → k < headFields → getD (head card .numbers) k 0 ≡ getD buffer k 0
+    number-is : (k : ℕ) → k < headFields → getD (head blank card .numbers) k 0 ≡ getD buffer k 0
     number-is k h =
-        sym (rw (first .read .1) (List·getD-append (head card .numbers) _ 0 k (let n = good-head .read in omega arith)))
+        sym (rw (first .read .1) (List·getD-append (head blank card .numbers) _ 0 k (let n = good-head .read in omega arith)))
 
     abbrev segments : ℕ
     segments = segmentsOf buffer
@@ -226,30 +213,30 @@ module _ {card old : List ℕ} {wrong : ℕ} {buffer : List ℕ} (first : HeadRe
     abbrev ages : ℕ
     ages = agesOf buffer
 
-    segments-are : segmentsIn (head card .numbers) ≡ segments
+    segments-are : segmentsIn (head blank card .numbers) ≡ segments
     segments-are = number-is (segmentsField - 1) (omega arith)
 
-    ages-are : agesIn (head card .numbers) ≡ ages
+    ages-are : agesIn (head blank card .numbers) ≡ ages
     ages-are = number-is (agesField - 1) (omega arith)
 
-    pub many-segments : mostSegments < segments → CardRead card old buffer (Not (Ranges segmentsField))
-    unfolding cardOutcome
+    pub many-segments : mostSegments < segments → CardRead blank card old buffer (Not (Ranges segmentsField))
+    unfolding outcomeOf
     many-segments h =
-        by card old buffer (refused (Ranges segmentsField) (head card .numbers))
+        by blank card old buffer (refused (Ranges segmentsField) (head blank card .numbers))
         (rw (no-wrong-head, segments-are, lt-ltb mostSegments segments h)) (first .read .1)
 
     module _ (few : segments ≤ mostSegments) where
-      pub few-ages : ages < leastAges → CardRead card old buffer (Not (Ranges agesField))
-      unfolding cardOutcome
+      pub few-ages : ages < leastAges → CardRead blank card old buffer (Not (Ranges agesField))
+      unfolding outcomeOf
       few-ages h =
-          by card old buffer (refused (Ranges agesField) (head card .numbers))
+          by blank card old buffer (refused (Ranges agesField) (head blank card .numbers))
           (rw (no-wrong-head, segments-are, le-ltb mostSegments segments few, ages-are, lt-ltb ages leastAges h)) (first .read .1)
 
       module _ (enough : leastAges ≤ ages) where
-        pub many-ages : mostAges < ages → CardRead card old buffer (Not (Ranges agesField))
-        unfolding cardOutcome
+        pub many-ages : mostAges < ages → CardRead blank card old buffer (Not (Ranges agesField))
+        unfolding outcomeOf
         many-ages h =
-            by card old buffer (refused (Ranges agesField) (head card .numbers))
+            by blank card old buffer (refused (Ranges agesField) (head blank card .numbers))
             (rw (
               no-wrong-head,
               segments-are,
@@ -261,32 +248,32 @@ module _ {card old : List ℕ} {wrong : ℕ} {buffer : List ℕ} (first : HeadRe
             (first .read .1)
 
 -- lines 1 to 4 are right, and the counts in range
-pub record CountsRead (card old buffer : List ℕ) : Type 0 where
+pub record CountsRead (blank : MayBeBlank) (card old buffer : List ℕ) : Type 0 where
   pub wrong : ℕ
-  pub lines : HeadRead card old wrong buffer
+  pub lines : HeadRead blank card old wrong buffer
   pub ok : wrong ≤ 0
   pub few : segmentsOf buffer ≤ mostSegments
   pub enough : leastAges ≤ agesOf buffer
   pub not-many : agesOf buffer ≤ mostAges
 
 -- then the lines that they announce were read
-pub record TailRead (card buffer : List ℕ) (wrong : ℕ) (after : List ℕ) : Type 0 where
-  pub read : AnnouncedRead (take (length card - headBytes) (drop headBytes card)) (segmentsOf buffer) (agesOf buffer)
+pub record TailRead (blank : MayBeBlank) (card buffer : List ℕ) (wrong : ℕ) (after : List ℕ) : Type 0 where
+  pub read : AnnouncedRead blank (take (length card - headBytes) (drop headBytes card)) (segmentsOf buffer) (agesOf buffer)
       (midOf headFields (length buffer - headFields) buffer) after wrong
 
-module _ {card old buffer : List ℕ} (first : CountsRead card old buffer) {wrong-line : ℕ} {after : List ℕ}
-    (second : TailRead card buffer wrong-line after) where
+module _ {blank : MayBeBlank} {card old buffer : List ℕ} (first : CountsRead blank card old buffer) {wrong-line : ℕ} {after : List ℕ}
+    (second : TailRead blank card buffer wrong-line after) where
   abbrev counted-segments : ℕ
   counted-segments = segmentsOf buffer
 
   abbrev counted-ages : ℕ
   counted-ages = agesOf buffer
 
-  behind : AnnouncedRead (drop headBytes card) counted-segments counted-ages
+  behind : AnnouncedRead blank (drop headBytes card) counted-segments counted-ages
       (midOf headFields (length buffer - headFields) buffer) after wrong-line
   behind = rw (tail card headBytes) at (second .read)
 
-  announced-is : announced card ≡ announcedOf counted-segments counted-ages (drop headBytes card)
+  announced-is : announced blank card ≡ announcedOf blank counted-segments counted-ages (drop headBytes card)
   announced-is =
       rw (
         segments-are (first .lines) (first .ok),
@@ -295,26 +282,26 @@ module _ {card old buffer : List ℕ} (first : CountsRead card old buffer) {wron
       )
 
   abbrev all : List ℕ
-  all = head card .numbers ++ announced card .numbers
+  all = head blank card .numbers ++ announced blank card .numbers
 
   abbrev whole : List ℕ
   whole = putMid headFields (length buffer - headFields) buffer after
 
   whole-is : whole ≡ over all old
   whole-is =
-      written-behind (head card .numbers) (announcedOf counted-segments counted-ages (drop headBytes card) .numbers) old buffer after
+      written-behind (head blank card .numbers) (announcedOf blank counted-segments counted-ages (drop headBytes card) .numbers) old buffer after
       headFields
       (sym (good-head (first .lines) (first .ok) .read)) (first .lines .read .1) (behind .1)
-      ∙ ap (λ (l : Lines). over (head card .numbers ++ l .numbers) old) (sym announced-is)
+      ∙ ap (λ (l : Lines). over (head blank card .numbers ++ l .numbers) old) (sym announced-is)
 
-  wrong-is : firstWrong (announced card) (lineBehind counted-segments counted-ages) ≡ wrong-line
+  wrong-is : firstWrong (announced blank card) (lineBehind counted-segments counted-ages) ≡ wrong-line
   wrong-is = ap (λ (l : Lines). firstWrong l (lineBehind counted-segments counted-ages)) announced-is ∙ sym (behind .0)
 
-  outcome-is : cardOutcome card
-      ≡ cond (ltb 0 (firstWrong (announced card) (lineBehind counted-segments counted-ages)))
-      (refused (Shape (firstWrong (announced card) (lineBehind counted-segments counted-ages))) all)
+  outcome-is : outcomeOf blank card
+      ≡ cond (ltb 0 (firstWrong (announced blank card) (lineBehind counted-segments counted-ages)))
+      (refused (Shape (firstWrong (announced blank card) (lineBehind counted-segments counted-ages))) all)
       (accepted counted-segments counted-ages all)
-  unfolding cardOutcome
+  unfolding outcomeOf
   outcome-is =
       rw (
         no-wrong-head (first .lines) (first .ok),
@@ -325,10 +312,10 @@ module _ {card old buffer : List ℕ} (first : CountsRead card old buffer) {wron
         le-ltb mostAges counted-ages (first .not-many),
       )
 
-  pub announced-wrong : 0 < wrong-line → CardRead card old whole (Not (Shape wrong-line))
+  pub announced-wrong : 0 < wrong-line → CardRead blank card old whole (Not (Shape wrong-line))
   announced-wrong h =
-      by card old whole (refused (Shape wrong-line) all) (outcome-is ∙ rw (wrong-is, lt-ltb 0 wrong-line h)) whole-is
+      by blank card old whole (refused (Shape wrong-line) all) (outcome-is ∙ rw (wrong-is, lt-ltb 0 wrong-line h)) whole-is
 
-  pub all-read : wrong-line ≤ 0 → CardRead card old whole (Fields counted-segments counted-ages)
+  pub all-read : wrong-line ≤ 0 → CardRead blank card old whole (Fields counted-segments counted-ages)
   all-read h =
-      by card old whole (accepted counted-segments counted-ages all) (outcome-is ∙ rw (wrong-is, le-ltb 0 wrong-line h)) whole-is
+      by blank card old whole (accepted counted-segments counted-ages all) (outcome-is ∙ rw (wrong-is, le-ltb 0 wrong-line h)) whole-is

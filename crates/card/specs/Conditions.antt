@@ -1,16 +1,15 @@
--- What the code that reads a card's lines asks of its buffer and its numbering. It serves the code alone. Assumes nothing.
-use Prim.Native.Nat.{ℕ, _+_, _*_, _≤_, _<_}
+-- It serves the code alone. What the code that reads a card asks of its buffers.
+use Prim.Native.Nat.{ℕ, _+_, _*_, _≤_}
 use mathlib.Core.List.{List}
 use lib.ListN.{length}
-use Rattle.fields.specs.Layout.{mostFields, mostSegments, mostAges, perSegment, perAge}
-use Rattle.card.specs.Card.{fieldsOn}
+use Rattle.fields.specs.Quantities.{perSegment, perAge}
+use Rattle.fields.specs.Limits.{mostSegments, mostAges}
+use Rattle.line.specs.Conditions.{bytesOn}
+use Rattle.card.specs.Card.{headLines, announcedLines}
 
--- lines of `counts` fields each, of which the first is line `line` and begins with field `field`
-pub record LinesFit (counts : List ℕ) (line field : ℕ) (fields : List ℕ) : Type 0 where
-  pub room : fieldsOn counts ≤ length fields
-  pub some-line : 0 < line
-  pub line-most : line ≤ mostFields
-  pub field-most : field ≤ mostFields
+-- the bytes of the longest good card
+abbrev pub mostBytes : ℕ
+mostBytes = bytesOn headLines + bytesOn (announcedLines mostSegments mostAges)
 
 -- the lines of segments and of ages
 pub record AnnouncedFit (segments ages : ℕ) (fields : List ℕ) : Type 0 where

@@ -2,24 +2,32 @@
 ghost use mathlib.Core.Path.{_≡_};
 ghost use Prim.Native.Nat.{_≤_};
 ghost use lib.ListN.{length};
-ghost use Rattle.fields.specs.Layout.{mostFields};
-ghost use Rattle.fields.specs.Amounts.{over};
-ghost use Rattle.card.specs.Card.{readLines, announcedOf, lineBehind, firstWrong, cardOutcome};
-ghost use Rattle.card.specs.Conditions.{LinesFit, AnnouncedFit};
+ghost use Rattle.fields.specs.Sizes.{mostFields};
+ghost use Rattle.fields.specs.Outcomes.{over};
+ghost use Rattle.card.specs.Card.{slipMayBeBlank, announcedOf, lineBehind, outcomeOf, cardOutcome};
+ghost use Rattle.card.specs.Conditions.{AnnouncedFit};
+ghost use Rattle.line.specs.Lines.{firstWrong};
 use fields::layout::AGES;
 use fields::layout::HEAD_FIELDS;
-use fields::layout::LEAST_AGES;
-use fields::layout::MOST_AGES;
-use fields::layout::MOST_FIELDS;
-use fields::layout::MOST_SEGMENTS;
 use fields::layout::PER_AGE;
 use fields::layout::PER_SEGMENT;
 use fields::layout::SEGMENTS;
+use fields::layout::SLIP;
+use fields::limits::BLANK_SLIP;
+use fields::limits::LEAST_AGES;
+use fields::limits::MOST_AGES;
+use fields::limits::MOST_FIELDS;
+use fields::limits::MOST_SEGMENTS;
 use fields::refusal::Reading;
 use fields::refusal::Refusal;
 use line::COLUMNS;
+use line::MayBeBlank;
+use line::lines::read_lines;
 
 const HEAD_LINES: usize = 4;
+
+// The fields on each of lines 1 to 4.
+const FIELDS_BY_LINE: [usize; HEAD_LINES] = [7, 6, 5, 6];
 
 // The bytes of lines 1 to 4, of a segment's line and of an age's, each with its line feed; and of the longest good card.
 const HEAD_BYTES: usize = COLUMNS * HEAD_FIELDS + HEAD_LINES;
@@ -35,38 +43,33 @@ const SEGMENT_LINE: usize = HEAD_LINES + 1;
 
 const SEGMENT_FIELD: usize = HEAD_FIELDS + 1;
 
-// Lines of `counts` fields each, from the front of `part` on; the first is line `line` and begins with field `field`. The first
-// wrong line, or 0; the numbers before the first wrong field are written at the front of `fields`.
-fn read_lines(part: &[u8], counts: &[usize], line: usize, field: usize, fields: &mut [u64]) -> usize
-    requires { ⌜ LinesFit (now counts) line field (now fields) ⌝ }
-    ensures { λ r. ⌜ r ≡ readLines (now (counts .entry)) line field (now (part .entry)) .wrong ⌝ }
-    ensures { λ r. ⌜ now (fields .exit)
-        ≡ over (readLines (now (counts .entry)) line field (now (part .entry)) .numbers) (now (fields .entry)) ⌝ }
+// A blank slip reads so many ticks, and no other field may be blank.
+fn slip_may_be_blank() -> MayBeBlank
+    ensures { λ r. ⌜ r ≡ slipMayBeBlank ⌝ }
 {
-    let mut done = 0usize;
-    let mut at = 0usize;
-    let mut read = 0usize;
-    while done < counts.len() {
-        let count = counts[done];
-        if !line::read_line(&part[at..], count, field + read, &mut fields[read..]) {
-            return line + done;
-        }
-        at += COLUMNS * count + 1;
-        read += count;
-        done += 1;
+    MayBeBlank::Only {
+        field: SLIP,
+        reads: BLANK_SLIP,
     }
-    0
 }
 
 // The lines of segments and of ages, which end the card. The first wrong line, or 0.
-fn read_announced(part: &[u8], segments: usize, ages: usize, fields: &mut [u64]) -> usize
+fn read_announced(
+    part: &[u8],
+    blank: MayBeBlank,
+    segments: usize,
+    ages: usize,
+    fields: &mut [u64],
+) -> usize
     requires { ⌜ AnnouncedFit segments ages (now fields) ⌝ }
-    ensures { λ r. ⌜ r ≡ firstWrong (announcedOf segments ages (now (part .entry))) (lineBehind segments ages) ⌝ }
-    ensures { λ r. ⌜ now (fields .exit) ≡ over (announcedOf segments ages (now (part .entry)) .numbers) (now (fields .entry)) ⌝ }
+    ensures { λ r. ⌜ r ≡ firstWrong (announcedOf blank segments ages (now (part .entry))) (lineBehind segments ages) ⌝ }
+    ensures { λ r. ⌜ now (fields .exit)
+        ≡ over (announcedOf blank segments ages (now (part .entry)) .numbers) (now (fields .entry)) ⌝ }
 {
     let of_segments = [PER_SEGMENT; MOST_SEGMENTS];
     let wrong = read_lines(
         part,
+        blank,
         &of_segments[..segments],
         SEGMENT_LINE,
         SEGMENT_FIELD,
@@ -81,6 +84,7 @@ fn read_announced(part: &[u8], segments: usize, ages: usize, fields: &mut [u64])
     let of_ages = [PER_AGE; MOST_AGES];
     let wrong = read_lines(
         &part[at..],
+        blank,
         &of_ages[..ages],
         line,
         SEGMENT_FIELD + read,
@@ -107,14 +111,15 @@ fn out_of_range(field: usize) -> Reading
     Reading::Not(Refusal::Ranges(field as u64))
 }
 
-// What a card gives; the numbers before its first wrong field are written at the front of `fields`.
-fn read_into(card: &[u8], fields: &mut [u64]) -> Reading
+// What a card gives, by which of its fields may be blank; the numbers before its first wrong field are written at the front of
+// `fields`.
+fn read_into(card: &[u8], blank: MayBeBlank, fields: &mut [u64]) -> Reading
     requires { ⌜ mostFields ≤ length (now fields) ⌝ }
-    ensures { λ r. ⌜ r ≡ cardOutcome (now (card .entry)) .reading ⌝ }
-    ensures { λ r. ⌜ now (fields .exit) ≡ over (cardOutcome (now (card .entry)) .numbers) (now (fields .entry)) ⌝ }
+    ensures { λ r. ⌜ r ≡ outcomeOf blank (now (card .entry)) .reading ⌝ }
+    ensures { λ r. ⌜ now (fields .exit) ≡ over (outcomeOf blank (now (card .entry)) .numbers) (now (fields .entry)) ⌝ }
 {
-    let head = [7usize, 6, 5, 6];
-    let wrong = read_lines(card, &head, 1, 1, fields);
+    let head = FIELDS_BY_LINE;
+    let wrong = read_lines(card, blank, &head, 1, 1, fields);
     if 0 < wrong {
         return wrong_line(wrong);
     }
@@ -131,6 +136,7 @@ fn read_into(card: &[u8], fields: &mut [u64]) -> Reading
     }
     let wrong = read_announced(
         &card[HEAD_BYTES..],
+        blank,
         segments,
         ages,
         &mut fields[HEAD_FIELDS..],
@@ -147,5 +153,5 @@ pub fn read_card(card: &[u8], fields: &mut [u64; MOST_FIELDS]) -> Reading
     ensures { λ r. ⌜ r ≡ cardOutcome (now (card .entry)) .reading ⌝ }
     ensures { λ r. ⌜ now (fields .exit) ≡ over (cardOutcome (now (card .entry)) .numbers) (now (fields .entry)) ⌝ }
 {
-    read_into(card, fields)
+    read_into(card, slip_may_be_blank(), fields)
 }

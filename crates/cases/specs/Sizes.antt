@@ -1,4 +1,4 @@
--- A size that a contract names. Assumes nothing.
+-- It serves the code alone. A size that a contract names.
 use Prim.Native.Nat.{ℕ}
 
 -- the numbers that a list's report or scratch is lent at most

@@ -2,14 +2,14 @@
 ghost use Prim.Native.Nat.{_≤_};
 ghost use Rattle.cases.specs.Sizes.{mostRoom};
 use crate::lists::LINE_FEED;
-use checks::buffers::PER_ROW;
-use fields::layout::MOST_AGES;
-use fields::layout::MOST_FIELDS;
+use entries::Answer;
+use fields::limits::MOST_AGES;
+use fields::limits::MOST_FIELDS;
+use fields::limits::PER_ROW;
 use fields::refusal::Reading;
 use fields::refusal::Refusal;
 use libc::STDOUT_FILENO;
-use losses::Answer;
-use stages::BeforeAges;
+use stages::before::BeforeAges;
 use text::MOST_LINE_BYTES;
 
 // Numbers that a list's report and scratch are lent at most.
@@ -85,7 +85,7 @@ pub(crate) fn print_list(list: &[f64], report_room: usize, scratch_room: usize) 
     let mut scratch = [0u64; MOST_ROOM];
     let lent = room_of(report_room);
     let spare = room_of(scratch_room);
-    match losses::run_list(list, &mut report[..lent], &mut scratch[..spare]) {
+    match entries::run_list(list, &mut report[..lent], &mut scratch[..spare]) {
         Answer::Refused(refusal) => print_refusal(refusal),
         Answer::Accepted(reply) => {
             let before = reply.before;

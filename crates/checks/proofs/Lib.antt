@@ -2,3 +2,4 @@ pub mod Rows
 pub mod RowPlaces
 pub mod Items
 pub mod Holding
+pub mod Cascade

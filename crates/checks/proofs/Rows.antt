@@ -8,7 +8,7 @@ use native.Mathlib.Omega.{arith}
 use borrow.Author.Tests.{eq-eqb, ne-eqb}
 use lib.Dec.{T, ltb, lit<}
 use Rattle.checks.specs.Rows.{Check, at, firstFailing}
-use Rattle.checks.specs.Parts.{orElse, failing}
+use Rattle.checks.specs.Places.{orElse, failing}
 
 -- no check of a row has the place 0
 pub data Placed : List Check → Type 0 where
@@ -32,35 +32,35 @@ parts other (more {check} {checks} h p) =
     skip (check .holds) (check .place) (firstFailing (checks ++ other)) (firstFailing checks) (firstFailing other) h (parts other p)
 
 -- what a row gives, as its checks are made one by one
-pub record Gives (checks : List Check) (r : ℕ) : Type 0 where
+pub record GivesPlace (checks : List Check) (r : ℕ) : Type 0 where
   pub placed : Placed checks
   pub same : r ≡ firstFailing checks
 
-pub begins : Gives [] 0
+pub begins : GivesPlace [] 0
 unfolding firstFailing
 begins = record { placed = none; same = refl }
 
-pub joined : {one other : List Check} {before after : ℕ} (r : ℕ) → Gives one before → Gives other after → r ≡ orElse before after
-    → Gives (one ++ other) r
+pub joined : {one other : List Check} {before after : ℕ} (r : ℕ) → GivesPlace one before → GivesPlace other after → r ≡ orElse before after
+    → GivesPlace (one ++ other) r
 joined {one} {other} r p q e = record {
   placed = placed-parts (p .placed) (q .placed);
   same = e ∙ rw (p .same, q .same) (sym (parts other (p .placed)));
 }
 
-pub next-at : {checks : List Check} {before r : ℕ} {holds flag : Bool} (place : ℕ) → 0 < place → Gives checks before → flag ≡ holds
-    → r ≡ orElse before (failing (at place flag)) → Gives (checks ++ (at place holds ∷ [])) r
+pub next-at : {checks : List Check} {before r : ℕ} {holds flag : Bool} (place : ℕ) → 0 < place → GivesPlace checks before → flag ≡ holds
+    → r ≡ orElse before (failing (at place flag)) → GivesPlace (checks ++ (at place holds ∷ [])) r
 unfolding firstFailing
 next-at {checks} {before} {r} {holds} place h b e f = joined r b (record { placed = more h none; same = refl }) (f ∙ rw e)
 
-pub next : {checks : List Check} {before r : ℕ} {holds flag : Bool} (place : ℕ) → T (ltb 0 place) → Gives checks before
-    → flag ≡ holds → r ≡ orElse before (failing (at place flag)) → Gives (checks ++ (at place holds ∷ [])) r
+pub next : {checks : List Check} {before r : ℕ} {holds flag : Bool} (place : ℕ) → T (ltb 0 place) → GivesPlace checks before
+    → flag ≡ holds → r ≡ orElse before (failing (at place flag)) → GivesPlace (checks ++ (at place holds ∷ [])) r
 next place h = next-at place (lit< h)
 
 -- a row whose first part is made, and whose later part is not: where something fails in the first, that is the row's place, and
 -- else the later part gives it
 pub record Turn (whole found : ℕ) (later : List Check) : Type 0 where
   pub made : List Check
-  pub gives : Gives made found
+  pub gives : GivesPlace made found
   pub same : whole ≡ firstFailing (made ++ later)
 
 module _ {whole found : ℕ} {later : List Check} (t : Turn whole found later) where

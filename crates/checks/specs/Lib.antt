@@ -1,3 +1,3 @@
 pub mod Rows
 pub mod Readable
-pub mod Parts
+pub mod Places

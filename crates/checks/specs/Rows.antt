@@ -1,15 +1,17 @@
--- Document 01, "Refusal by place of checking", from the row "codes" to the row "creep", each as its checks in the order of their
--- fields. Assumes nothing.
-use Prim.Native.Nat.{ℕ, _+_, _*_, _^_}
+-- The promise rests on it. Document 01, "Refusal by place of checking", from codes to creep: each row as its checks in their order.
+use Prim.Native.Nat.{ℕ, _+_, _*_}
 use mathlib.Core.Bool.{Bool, _&&_, _||_, not, cond}
 use mathlib.Core.List.{List, [], _∷_, _++_}
 use lib.Dec.{leb, ltb, eqb}
-use Rattle.fields.specs.Layout.{firstSegmentField, firstAgeField, perSegment, perAge, mostAges}
+use lib.ListN.{length}
 use Rattle.logarithm.specs.Logarithm.{serviceLife}
-use Rattle.fields.specs.Quantities.{kindCode, steelCode, ultimateStrength, jackingStress, deflectorLoss, slip}
-use Rattle.fields.specs.Quantities.{tendonLength, cureCode, concreteCode, Es, Eci, Ec, volumeToSurface, area, inertia}
-use Rattle.fields.specs.Quantities.{eccentricity, steelArea, ownWeightMoment, endOfCuring, transfer, wobble, curvature}
-use Rattle.fields.specs.Quantities.{Segment, segmentsOf, Age, agesOf}
+use Rattle.fields.specs.declared.refusal.Refusal.{Refusal}
+use Rattle.fields.specs.Quantities.{firstSegmentField, firstAgeField, perSegment, perAge, Quantities, fieldNumber, Segment, Age}
+use Rattle.fields.specs.Quantities.{isPretensioned, isMoist, straight, parabola, bend}
+use Rattle.fields.specs.Outcomes.{OrRefusal, Gives, Refuses}
+use Rattle.fields.specs.Limits.{Range, range, mostOfStrength, hundredths, mostLength, mostMoment, leastStraight, leastParabola}
+use Rattle.fields.specs.Limits.{mostRise, mostAngle, leastMoistTransfer, mostFriction, reportRoom, scratchRoom, mostKappa}
+use Rattle.fields.specs.Limits.{mostCreepOfKappa}
 
 -- ---- a row of checks
 
@@ -26,74 +28,82 @@ unfoldable pub firstFailing : List Check → ℕ
 firstFailing [] = 0
 firstFailing (check ∷ checks) = cond (check .holds) (firstFailing checks) (check .place)
 
+-- a row: which refusal a place of it is, and its checks
+pub record CheckRow : Type 0 where
+  pub refusal : ℕ → Refusal
+  pub checks : List Check
+
+abbrev pub row : (ℕ → Refusal) → List Check → CheckRow
+row refusal checks = record { refusal = refusal; checks = checks }
+
+-- "top to bottom": a value, where every check of some rows holds
+unfoldable pub checkedBy : {A : Type 0} → List CheckRow → A → OrRefusal A
+checkedBy [] value = Gives value
+checkedBy (row ∷ rows) value =
+    let place = firstFailing (row .checks) in
+    cond (eqb place 0) (checkedBy rows value) (Refuses (row .refusal place))
+
 -- x lies in low..high
 abbrev pub within : ℕ → ℕ → ℕ → Bool
 within low high x = leb low x && leb x high
+
+-- what stands in a field lies in its range
+abbrev pub ranged : ℕ → Range → ℕ → Check
+ranged number range x = at number (within (range .low) (range .high) x)
 
 -- ---- codes: "code not listed (1, 2, 8, 9, segment)"
 
 unfoldable pub segmentCodes : ℕ → List Segment → List Check
 segmentCodes place [] = []
-segmentCodes place (segment ∷ segments) = at place (within 1 3 (segment .kind)) ∷ segmentCodes (place + perSegment) segments
+segmentCodes place (segment ∷ segments) =
+    at place (within straight bend (segment .kind)) ∷ segmentCodes (place + perSegment) segments
 
-abbrev pub headCodes : List ℕ → List Check
-headCodes fields =
-    at 1 (within 1 2 (kindCode fields)) ∷ at 2 (within 1 2 (steelCode fields))
-    ∷ at 8 (within 1 2 (cureCode fields)) ∷ at 9 (within 1 2 (concreteCode fields)) ∷ []
+abbrev pub headCodes : Quantities → List Check
+headCodes q =
+    ranged (fieldNumber .kind) (range .kind) (q .kind) ∷ ranged (fieldNumber .steel) (range .steel) (q .steel)
+    ∷ ranged (fieldNumber .cure) (range .cure) (q .cure) ∷ ranged (fieldNumber .concrete) (range .concrete) (q .concrete) ∷ []
 
-abbrev pub codes : ℕ → List ℕ → List Check
-codes segments fields = headCodes fields ++ segmentCodes firstSegmentField (segmentsOf segments fields)
-
--- what the codes are, once they are listed
-abbrev pub isPretensioned : List ℕ → Bool
-isPretensioned fields = eqb (kindCode fields) 1
-
-abbrev pub isMoist : List ℕ → Bool
-isMoist fields = eqb (cureCode fields) 1
+abbrev pub codes : Quantities → List Check
+codes q = headCodes q ++ segmentCodes firstSegmentField (q .path)
 
 -- ---- ranges: "out of range; running sum of moments over 2^40"
 
-abbrev pub mostMoment : ℕ
-mostMoment = 2 ^ 40
+-- "at least 1,000 and at most 0.80 F"
+abbrev pub jackingFits : Quantities → Bool
+jackingFits q =
+    leb (range .jackingStress .low) (q .jackingStress)
+    && leb (hundredths * q .jackingStress) (mostOfStrength * q .ultimateStrength)
 
--- "4 jacking stress in psi, at least 1,000 and at most 0.80 F, 5 deflector loss 0..20,000 psi (0 if kind 2)"
-abbrev pub rangesOfLine1 : List ℕ → List Check
-rangesOfLine1 fields =
-    at 3 (within 100000 300000 (ultimateStrength fields))
-    ∷ at 4 (leb 1000 (jackingStress fields) && leb (100 * jackingStress fields) (80 * ultimateStrength fields))
-    ∷ at 5 (leb (deflectorLoss fields) 20000 && (isPretensioned fields || eqb (deflectorLoss fields) 0))
-    ∷ at 6 (leb (slip fields) 2048)
-    ∷ at 7 (within 1024 2097152 (tendonLength fields)) ∷ []
+-- "(0 if kind 2)"
+abbrev pub deflectorFits : Quantities → Bool
+deflectorFits q = leb (q .deflectorLoss) (range .deflectorLoss .high) && (isPretensioned q || eqb (q .deflectorLoss) 0)
 
--- "10 Es 20,000,000..32,000,000 psi, 11 Eci, 12 Ec 1,000,000..8,000,000, 13 volume/surface 1,024..65,536 ticks"
-abbrev pub rangesOfLine2 : List ℕ → List Check
-rangesOfLine2 fields =
-    at 10 (within 20000000 32000000 (Es fields)) ∷ at 11 (within 1000000 8000000 (Eci fields))
-    ∷ at 12 (within 1000000 8000000 (Ec fields)) ∷ at 13 (within 1024 65536 (volumeToSurface fields)) ∷ []
+-- lines 1 to 4. Fields 23 and 24 were ranged while the shape was read.
+abbrev pub headRanges : Quantities → List Check
+headRanges q =
+    ranged (fieldNumber .ultimateStrength) (range .ultimateStrength) (q .ultimateStrength)
+    ∷ at (fieldNumber .jackingStress) (jackingFits q) ∷ at (fieldNumber .deflectorLoss) (deflectorFits q)
+    ∷ ranged (fieldNumber .slip) (range .slip) (q .slip)
+    ∷ ranged (fieldNumber .tendonLength) (range .tendonLength) (q .tendonLength)
+    ∷ ranged (fieldNumber .Es) (range .Es) (q .Es) ∷ ranged (fieldNumber .Eci) (range .Eci) (q .Eci)
+    ∷ ranged (fieldNumber .Ec) (range .Ec) (q .Ec)
+    ∷ ranged (fieldNumber .volumeToSurface) (range .volumeToSurface) (q .volumeToSurface)
+    ∷ ranged (fieldNumber .area) (range .area) (q .area) ∷ ranged (fieldNumber .inertia) (range .inertia) (q .inertia)
+    ∷ ranged (fieldNumber .eccentricity) (range .eccentricity) (q .eccentricity)
+    ∷ ranged (fieldNumber .steelArea) (range .steelArea) (q .steelArea)
+    ∷ ranged (fieldNumber .ownWeightMoment) (range .ownWeightMoment) (q .ownWeightMoment)
+    ∷ ranged (fieldNumber .wobble) (range .wobble) (q .wobble)
+    ∷ ranged (fieldNumber .curvature) (range .curvature) (q .curvature) ∷ []
 
--- "14 area A 1,024..2^24, 15 inertia I 1,024..2^34, 16 eccentricity e 0..65,536, 17 steel area Ap 1..65,536,
--- 18 own-weight moment 0..2^40"
-abbrev pub rangesOfLine3 : List ℕ → List Check
-rangesOfLine3 fields =
-    at 14 (within 1024 (2 ^ 24) (area fields)) ∷ at 15 (within 1024 (2 ^ 34) (inertia fields))
-    ∷ at 16 (leb (eccentricity fields) 65536) ∷ at 17 (within 1 65536 (steelArea fields))
-    ∷ at 18 (leb (ownWeightMoment fields) mostMoment) ∷ []
-
--- "21 wobble 0..2,000 and 22 curvature 0..400,000, millionths". Fields 23 and 24 were ranged while the shape was read.
-abbrev pub rangesOfLine4 : List ℕ → List Check
-rangesOfLine4 fields = at 21 (leb (wobble fields) 2000) ∷ at 22 (leb (curvature fields) 400000) ∷ []
-
--- "1 straight (length 1..2,097,152, rise 0); 2 parabola (length 1,024..2,097,152, rise 0..65,536); 3 bend (length 0, third field
--- the angle 0..4,096)"
 abbrev pub lengthFits : Segment → Bool
 lengthFits segment =
-    cond (eqb (segment .kind) 1) (within 1 2097152 (segment .length))
-    (cond (eqb (segment .kind) 2) (within 1024 2097152 (segment .length)) (eqb (segment .length) 0))
+    cond (eqb (segment .kind) straight) (within leastStraight mostLength (segment .length))
+    (cond (eqb (segment .kind) parabola) (within leastParabola mostLength (segment .length)) (eqb (segment .length) 0))
 
 abbrev pub riseFits : Segment → Bool
 riseFits segment =
-    cond (eqb (segment .kind) 1) (eqb (segment .rise) 0)
-    (cond (eqb (segment .kind) 2) (leb (segment .rise) 65536) (leb (segment .rise) 4096))
+    cond (eqb (segment .kind) straight) (eqb (segment .rise) 0)
+    (cond (eqb (segment .kind) parabola) (leb (segment .rise) mostRise) (leb (segment .rise) mostAngle))
 
 unfoldable pub rangesOfSegments : ℕ → List Segment → List Check
 rangesOfSegments place [] = []
@@ -106,24 +116,24 @@ rangesOfMoments place before [] = []
 rangesOfMoments place before (age ∷ ages) =
     at (place + 1) (leb (before + age .moment) mostMoment) ∷ rangesOfMoments (place + perAge) (before + age .moment) ages
 
-abbrev pub ranges : ℕ → ℕ → List ℕ → List Check
-ranges segments ages fields =
-    rangesOfLine1 fields ++ (rangesOfLine2 fields ++ (rangesOfLine3 fields ++ (rangesOfLine4 fields
-    ++ (rangesOfSegments firstSegmentField (segmentsOf segments fields)
-    ++ rangesOfMoments (firstAgeField segments) (ownWeightMoment fields) (agesOf segments ages fields)))))
+abbrev pub ranges : Quantities → List Check
+ranges q =
+    headRanges q
+    ++ (rangesOfSegments firstSegmentField (q .path)
+    ++ rangesOfMoments (firstAgeField (length (q .path))) (q .ownWeightMoment) (q .ages))
 
 -- ---- hours: "rule of hours broken". "Rules of hours that name the end of curing break at field 19, transfer's own range at 20."
 
 -- "End of curing is at most transfer, equal to it for kind 1, and at most 168 if moist."
-abbrev pub curingFits : List ℕ → Bool
-curingFits fields =
-    leb (endOfCuring fields) (transfer fields)
-    && (not (isPretensioned fields) || eqb (endOfCuring fields) (transfer fields))
-    && (not (isMoist fields) || leb (endOfCuring fields) 168)
+abbrev pub curingFits : Quantities → Bool
+curingFits q =
+    leb (q .endOfCuring) (q .transfer)
+    && (not (isPretensioned q) || eqb (q .endOfCuring) (q .transfer))
+    && (not (isMoist q) || leb (q .endOfCuring) (range .endOfCuring .high))
 
 -- "Transfer lies in 72..960 if moist, 1..960 if accelerated."
-abbrev pub transferFits : List ℕ → Bool
-transferFits fields = within (cond (isMoist fields) 72 1) 960 (transfer fields)
+abbrev pub transferFits : Quantities → Bool
+transferFits q = within (cond (isMoist q) leastMoistTransfer (range .transfer .low)) (range .transfer .high) (q .transfer)
 
 -- "Ages rise strictly from above transfer to at most 438,000": `before` is the age before these, transfer first
 unfoldable pub hoursOfAges : ℕ → ℕ → List Age → List Check
@@ -131,37 +141,26 @@ hoursOfAges place before [] = []
 hoursOfAges place before (age ∷ ages) =
     at place (ltb before (age .hour) && leb (age .hour) serviceLife) ∷ hoursOfAges (place + perAge) (age .hour) ages
 
-abbrev pub hours : ℕ → ℕ → List ℕ → List Check
-hours segments ages fields =
-    at 19 (curingFits fields) ∷ at 20 (transferFits fields)
-    ∷ hoursOfAges (firstAgeField segments) (transfer fields) (agesOf segments ages fields)
+abbrev pub hours : Quantities → List Check
+hours q =
+    at (fieldNumber .endOfCuring) (curingFits q) ∷ at (fieldNumber .transfer) (transferFits q)
+    ∷ hoursOfAges (firstAgeField (length (q .path))) (q .transfer) (q .ages)
 
 -- ---- the rows below have numbered places of their own
 
--- "kind 1 with segments; X over 5,033,164"
-abbrev pub mostFriction : ℕ
-mostFriction = 5033164
-
+-- duct: "kind 1 with segments; X over 5,033,164"
 abbrev pub duct : Bool → ℕ → ℕ → List Check
 duct pretensioned segments friction =
     at 1 (not pretensioned || eqb segments 0) ∷ at 2 (leb friction mostFriction) ∷ []
 
--- "creep, shrinkage, relaxation, stress per age"
-abbrev pub perRow : ℕ
-perRow = 4
-
--- the numbers of the longest report
-abbrev pub mostNumbers : ℕ
-mostNumbers = perRow * mostAges
-
--- "report or scratch under 4n numbers"
+-- buffers: "report or scratch under 4n numbers"
 abbrev pub buffers : ℕ → ℕ → ℕ → List Check
-buffers ages report scratch = at 1 (leb (perRow * ages) report) ∷ at 2 (leb (perRow * ages) scratch) ∷ []
+buffers ages report scratch = at 1 (leb (reportRoom ages) report) ∷ at 2 (leb (scratchRoom ages) scratch) ∷ []
 
--- "κ over 2^30"
-abbrev pub mostKappa : ℕ
-mostKappa = 2 ^ 30
+-- section: "κ over 2^30"
+abbrev pub section : ℕ → List Check
+section kappa = at (fieldNumber .area) (leb kappa mostKappa) ∷ []
 
--- "U·κ over 2^56"
-abbrev pub mostCreepOfKappa : ℕ
-mostCreepOfKappa = 2 ^ 56
+-- creep: "U·κ over 2^56"
+abbrev pub creep : ℕ → List Check
+creep creepOfKappa = at (fieldNumber .steelArea) (leb creepOfKappa mostCreepOfKappa) ∷ []

@@ -3,13 +3,7 @@ ghost use mathlib.Core.Path.{_≡_};
 ghost use Rattle.checks.specs.Rows.{firstFailing, buffers};
 ghost use Rattle.checks.specs.Readable.{AgeCount};
 use crate::row;
-use fields::layout::MOST_AGES;
-
-// Creep, shrinkage, relaxation and stress of an age.
-pub const PER_ROW: usize = 4;
-
-// The numbers of the longest report.
-pub const MOST_NUMBERS: usize = PER_ROW * MOST_AGES;
+use fields::limits::PER_ROW;
 
 pub fn first_failing(ages: usize, report: usize, scratch: usize) -> u64
     requires { ⌜ AgeCount ages ⌝ }

@@ -1,45 +1,39 @@
 // Row "codes". A place is the number of a field.
 ghost use mathlib.Core.Path.{_≡_};
-ghost use Rattle.fields.specs.Layout.{firstSegmentField};
-ghost use Rattle.fields.specs.Quantities.{segmentsOf};
+ghost use Rattle.fields.specs.Quantities.{perSegment, segmentsFrom, quantitiesOf};
 ghost use Rattle.checks.specs.Rows.{firstFailing, headCodes, segmentCodes, codes};
-ghost use Rattle.checks.specs.Readable.{SegmentCount};
+ghost use Rattle.checks.specs.Readable.{SegmentCount, Listed};
+ghost use Rattle.checks.specs.Places.{headOf};
 use crate::row;
+use fields::layout::FIRST_SEGMENT;
 use fields::layout::HEAD_FIELDS;
-use fields::layout::MOST_FIELDS;
 use fields::layout::PER_SEGMENT;
+use fields::layout::from_element;
+use fields::limits::FIRST_CODE;
+use fields::limits::LAST_CODE;
+use fields::limits::LAST_SEGMENT_CODE;
+use fields::limits::MOST_FIELDS;
 use fields::places;
 
-// Codes that are listed.
-const FIRST_CODE: u64 = 1;
-
-const LAST_CODE: u64 = 2;
-
-const LAST_SEGMENT_CODE: u64 = 3;
-
 fn head_codes(fields: &[u64; MOST_FIELDS]) -> u64
-    ensures { λ r. ⌜ r ≡ firstFailing (headCodes (now (fields .entry))) ⌝ }
+    ensures { λ r. ⌜ r ≡ firstFailing (headCodes (headOf (now (fields .entry)))) ⌝ }
 {
-    let failing = row::ranged(0, 1, FIRST_CODE, LAST_CODE, fields[places::KIND]);
-    let failing = row::ranged(failing, 2, FIRST_CODE, LAST_CODE, fields[places::STEEL]);
-    let failing = row::ranged(failing, 8, FIRST_CODE, LAST_CODE, fields[places::CURE]);
-    row::ranged(failing, 9, FIRST_CODE, LAST_CODE, fields[places::CONCRETE])
+    let failing = row::ranged(fields, 0, places::KIND, FIRST_CODE, LAST_CODE);
+    let failing = row::ranged(fields, failing, places::STEEL, FIRST_CODE, LAST_CODE);
+    let failing = row::ranged(fields, failing, places::CURE, FIRST_CODE, LAST_CODE);
+    row::ranged(fields, failing, places::CONCRETE, FIRST_CODE, LAST_CODE)
 }
 
-fn segment_codes(fields: &[u64; MOST_FIELDS], segments: usize) -> u64
-    requires { ⌜ SegmentCount segments ⌝ }
-    ensures { λ r. ⌜ r ≡ firstFailing (segmentCodes firstSegmentField (segmentsOf segments (now (fields .entry)))) ⌝ }
+// The codes of the segments with which `part` begins. Its first field is numbered `place`.
+pub fn of_segments(part: &[u64], segments: usize, place: u64) -> u64
+    requires { ⌜ Listed perSegment segments place (now part) ⌝ }
+    ensures { λ r. ⌜ r ≡ firstFailing (segmentCodes place (segmentsFrom segments (now (part .entry)))) ⌝ }
 {
     let mut segment = 0usize;
     while segment < segments {
-        let at = HEAD_FIELDS + PER_SEGMENT * segment;
-        let failing = row::ranged(
-            0,
-            (at + 1) as u64,
-            FIRST_CODE,
-            LAST_SEGMENT_CODE,
-            fields[at],
-        );
+        let at = PER_SEGMENT * segment;
+        let listed = row::in_range(FIRST_CODE, LAST_SEGMENT_CODE, part[at]);
+        let failing = row::first(0, place + at as u64, listed);
         if failing != 0 {
             return failing;
         }
@@ -50,7 +44,8 @@ fn segment_codes(fields: &[u64; MOST_FIELDS], segments: usize) -> u64
 
 pub fn first_failing(fields: &[u64; MOST_FIELDS], segments: usize) -> u64
     requires { ⌜ SegmentCount segments ⌝ }
-    ensures { λ r. ⌜ r ≡ firstFailing (codes segments (now (fields .entry))) ⌝ }
+    ensures { λ r. ⌜ r ≡ firstFailing (codes (quantitiesOf segments 0 (now (fields .entry)))) ⌝ }
 {
-    row::or_else(head_codes(fields), segment_codes(fields, segments))
+    let path = of_segments(from_element(fields, HEAD_FIELDS), segments, FIRST_SEGMENT);
+    row::or_else(head_codes(fields), path)
 }

@@ -2,8 +2,7 @@
 ghost use mathlib.Core.Path.{_≡_};
 ghost use Rattle.checks.specs.Rows.{firstFailing, duct};
 use crate::row;
-
-const MOST_FRICTION: u64 = 5_033_164;
+use fields::limits::MOST_FRICTION;
 
 pub fn first_failing(pretensioned: bool, segments: u64, friction: u64) -> u64
     ensures { λ r. ⌜ r ≡ firstFailing (duct pretensioned segments friction) ⌝ }

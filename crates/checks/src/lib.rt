@@ -5,6 +5,5 @@ pub mod buffers;
 pub mod codes;
 pub mod duct;
 pub mod hours;
-pub mod limits;
 pub mod ranges;
 pub mod row;

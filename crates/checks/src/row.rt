@@ -1,8 +1,12 @@
 // A row of the table of refusals: its checks in the order of their fields, of which the first that fails gives the place.
 ghost use mathlib.Core.Path.{_≡_};
 ghost use mathlib.Core.Bool.{_&&_, _||_, not};
+ghost use Prim.Native.Nat.{_+_, _<_};
+ghost use lib.ListN.{getD};
+ghost use Rattle.fields.specs.Sizes.{mostFields};
 ghost use Rattle.checks.specs.Rows.{within, at};
-ghost use Rattle.checks.specs.Parts.{orElse, failing};
+ghost use Rattle.checks.specs.Places.{orElse, failing};
+use fields::limits::MOST_FIELDS;
 
 // The place that the earlier part of a row gives, or else the later part's. 0: none.
 pub fn or_else(before: u64, after: u64) -> u64
@@ -44,9 +48,18 @@ pub fn in_range(low: u64, high: u64, x: u64) -> bool
     both(low <= x, x <= high)
 }
 
-// The place given so far, or else this one, where x does not lie in low..high.
-pub fn ranged(before: u64, place: u64, low: u64, high: u64, x: u64) -> u64
-    ensures { λ r. ⌜ r ≡ orElse before (failing (at place (within low high x))) ⌝ }
+// The place given so far, or else the number of a field, where its check fails: field k is element k - 1.
+pub fn first_field(before: u64, element: usize, holds: bool) -> u64
+    requires { ⌜ element < mostFields ⌝ }
+    ensures { λ r. ⌜ r ≡ orElse before (failing (at (element + 1) holds)) ⌝ }
 {
-    first(before, place, in_range(low, high, x))
+    first(before, (element + 1) as u64, holds)
+}
+
+// The same, where the field does not lie in low..high.
+pub fn ranged(fields: &[u64; MOST_FIELDS], before: u64, element: usize, low: u64, high: u64) -> u64
+    requires { ⌜ element < mostFields ⌝ }
+    ensures { λ r. ⌜ r ≡ orElse before (failing (at (element + 1) (within low high (getD (now (fields .entry)) element 0)))) ⌝ }
+{
+    first_field(before, element, in_range(low, high, fields[element]))
 }

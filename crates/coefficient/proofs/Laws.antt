@@ -12,11 +12,11 @@ use Rattle.tables.specs.declared.Table.the-variants.{Scf, Ssf, Mcf}
 use Rattle.coefficient.specs.declared.clocks.MemberHours.{MemberHours}
 use Rattle.coefficient.specs.declared.clocks.HoursSinceTransfer.{HoursSinceTransfer}
 use Rattle.coefficient.specs.declared.clocks.HoursSinceCuring.{HoursSinceCuring}
-use Rattle.coefficient.specs.Clocks.{sinceTransfer, sinceCuring, sinceTensioning}
-use Rattle.tables.specs.Lines.{Exact}
-use Rattle.tables.specs.Tables.{scfRows, ssfRows, mcfRows, creepShareRows, shrinkageShareRows, unitOf, T}
-use Rattle.coefficient.specs.Coefficients.{scf, ssf, mcf, creepShare, shrinkageShare, ucr, ucrBase, ush}
-use Rattle.tables.proofs.Rows.{exact, within, never-falls, past-last}
+use Rattle.coefficient.specs.Coefficients.{sinceTensioning, scf, ssf, mcf, creepShare, shrinkageShare, ucr, ucrBase, ush}
+use Rattle.tables.specs.Exact.{Exact}
+use Rattle.tables.specs.Tables.{scfRows, ssfRows, mcfRows, creepShareRows, shrinkageShareRows, unitOf}
+use Rattle.ticks.specs.Ticks.{T}
+use Rattle.tables.proofs.Rows.{exact, within, past-last}
 
 -- SCF is a whole number of 102,400ths at every volume/surface: nothing is rounded.
 pub scf-exact : (volumeToSurface : ℕ) → Exact (unitOf Scf) scfRows volumeToSurface
@@ -46,18 +46,6 @@ unfolding mcf
 mcf-range Moist transfer = within (unitOf Mcf) 60 114 transfer mcfRows tt
 mcf-range Accelerated transfer = omega arith
 
--- The creep share never falls as its clock goes on.
-pub creep-never-falls : (life earlier clock : HoursSinceTransfer) → earlier .0 ≤ clock .0
-    → creepShare life earlier ≤ creepShare life clock
-unfolding creepShare
-creep-never-falls life earlier clock h = never-falls T (earlier .0) (clock .0) h (creepShareRows (life .0)) tt
-
--- The shrinkage share never falls as its clock goes on.
-pub shrinkage-never-falls : (life earlier clock : HoursSinceCuring) → earlier .0 ≤ clock .0
-    → shrinkageShare life earlier ≤ shrinkageShare life clock
-unfolding shrinkageShare
-shrinkage-never-falls life earlier clock h = never-falls T (earlier .0) (clock .0) h (shrinkageShareRows (life .0)) tt
-
 -- The creep share is never more than 1.
 pub creep-most : (life clock : HoursSinceTransfer) → creepShare life clock ≤ T
 unfolding creepShare
@@ -67,16 +55,6 @@ creep-most life clock = within T 0 100 (clock .0) (creepShareRows (life .0)) tt 
 pub shrinkage-most : (life clock : HoursSinceCuring) → shrinkageShare life clock ≤ T
 unfolding shrinkageShare
 shrinkage-most life clock = within T 0 100 (clock .0) (shrinkageShareRows (life .0)) tt .1
-
--- The creep share is 0 as its clock starts.
-pub creep-starts : (life clock : HoursSinceTransfer) → clock .0 ≡ 0 → creepShare life clock ≡ 0
-unfolding creepShare
-creep-starts life clock h = rw h
-
--- The shrinkage share is 0 as its clock starts.
-pub shrinkage-starts : (life clock : HoursSinceCuring) → clock .0 ≡ 0 → shrinkageShare life clock ≡ 0
-unfolding shrinkageShare
-shrinkage-starts life clock h = rw h
 
 -- The hours of the 365th day, the last in both tables of shares. Every member's life is longer.
 abbrev pub lastDay : ℕ
@@ -112,14 +90,6 @@ ush-range Lightweight ec = omega arith
 -- Relaxation's clock reads at least 1.
 pub since-tensioning-least : (hours : MemberHours) (hour : ℕ) → 1 ≤ sinceTensioning hours hour .0
 since-tensioning-least hours hour = omega arith
-
--- Creep's clock reads at most the service life within it.
-pub since-transfer-most : (hours : MemberHours) (hour : ℕ) → hour ≤ serviceLife → sinceTransfer hours hour .0 ≤ serviceLife
-since-transfer-most hours hour h = omega arith
-
--- Shrinkage's clock reads at most the service life within it.
-pub since-curing-most : (hours : MemberHours) (hour : ℕ) → hour ≤ serviceLife → sinceCuring hours hour .0 ≤ serviceLife
-since-curing-most hours hour h = omega arith
 
 -- Relaxation's clock reads at most the service life within it.
 pub since-tensioning-most : (hours : MemberHours) (hour : ℕ) → hour ≤ serviceLife → sinceTensioning hours hour .0 ≤ serviceLife

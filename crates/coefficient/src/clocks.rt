@@ -1,7 +1,7 @@
 // The three clocks. Each is a type of its own, so that a reading of one cannot enter another's table.
 ghost use mathlib.Core.Path.{_≡_};
 ghost use Prim.Native.Nat.{_-_};
-ghost use Rattle.coefficient.specs.Clocks.{sinceTransfer, sinceCuring, sinceTensioning};
+ghost use Rattle.coefficient.specs.Coefficients.{sinceTransfer, sinceCuring, sinceTensioning};
 use crate::codes::Kind;
 
 // Creep's clock.

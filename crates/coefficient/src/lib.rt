@@ -1,7 +1,8 @@
 // The coefficients of creep and shrinkage, and the clocks by which they are read.
 ghost use mathlib.Core.Path.{_≡_};
 ghost use Prim.Native.Nat.{_-_, max};
-ghost use Rattle.logarithm.specs.Logarithm.{logarithm, IsTable};
+ghost use Rattle.logarithm.specs.Logarithm.{logarithm};
+ghost use Rattle.logarithm.specs.Table.{IsTable};
 ghost use Rattle.coefficient.specs.Coefficients.{scf, ssf, mcf, creepShare, shrinkageShare, ucr, ush};
 
 pub mod clocks;

@@ -3,8 +3,8 @@ use mathlib.Core.Path.{_≡_}
 use mathlib.Core.List.{List}
 use Prim.Native.Nat.{ℕ, _-_, _^_, _≤_, _<_}
 use lib.ListN.{length, getD}
-use Rattle.fields.specs.Layout.{segmentsField, agesField, mostSegments, leastAges, mostAges, fieldsIn}
-use Rattle.fields.specs.Layout.{columns}
+use Rattle.fields.specs.Quantities.{segmentsField, agesField, fieldsIn, columns}
+use Rattle.fields.specs.Limits.{mostSegments, leastAges, mostAges}
 
 pub record Accepted (numbers : List ℕ) (segments ages : ℕ) : Type 0 where
   pub few-segments : segments ≤ mostSegments

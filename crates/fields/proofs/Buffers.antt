@@ -7,7 +7,7 @@ use native.Mathlib.Omega.{arith}
 use lib.ListN.{length, take, drop, length-append, length-drop, drop-of-length-le}
 use lib.Seq.{take-append-seam, drop-append-seam, drop-drop, take-all}
 use borrow.Rule.Slice.PartMut.{midOf, putMid}
-use Rattle.fields.specs.Amounts.{over}
+use Rattle.fields.specs.Outcomes.{over}
 
 pub length-over : (new old : List ℕ) → length new ≤ length old → length (over new old) ≡ length old
 length-over new old h = simp (length-append, length-drop) (omega arith)

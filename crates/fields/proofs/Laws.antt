@@ -1,4 +1,4 @@
--- Laws of the counts, of amounts and of ages, each by cases or along its list. Assumes nothing.
+-- Laws of the counts, of amounts, of segments and of ages, each by cases or along its list. Assumes nothing.
 use mathlib.Core.Path.{_≡_, refl, ap}
 use mathlib.Core.Bool.{Bool, true, false, _||_}
 use mathlib.Core.List.{List, [], _∷_, _++_}
@@ -9,9 +9,9 @@ use lib.ListN.{length, drop}
 use borrow.Author.Tests.{ltb-false}
 use Rattle.ticks.specs.declared.Amount.{Amount}
 use Rattle.ticks.specs.declared.Amount.the-variants.{Of, Refused}
-use Rattle.fields.specs.Layout.{leastAges, mostAges, agesOutOfRange, perAge}
-use Rattle.fields.specs.Amounts.{numbersIn}
-use Rattle.fields.specs.Quantities.{agesFrom}
+use Rattle.fields.specs.Quantities.{perSegment, perAge, segmentsFrom, agesFrom}
+use Rattle.fields.specs.Limits.{leastAges, mostAges, agesOutOfRange}
+use Rattle.fields.specs.Outcomes.{numbersIn}
 
 neither : (a b : Bool) → (a || b) ≡ false → (a ≡ false) × (b ≡ false)
 neither true b e = absurd (let z : _≡_ {A = ℕ} 0 1 = cc in omega arith)
@@ -29,6 +29,11 @@ unfolding numbersIn
 numbers-append [] ys h = refl
 numbers-append (Of n ∷ xs) ys h = ap (λ (l : List ℕ). n ∷ l) (numbers-append xs ys (omega arith))
 numbers-append (Refused ∷ xs) ys h = absurd (omega arith)
+
+pub segments-length : (segments : ℕ) (fields : List ℕ) → length (segmentsFrom segments fields) ≡ segments
+unfolding segmentsFrom
+segments-length zero fields = refl
+segments-length (suc segments) fields = ap suc (segments-length segments (drop perSegment fields))
 
 pub ages-length : (ages : ℕ) (fields : List ℕ) → length (agesFrom ages fields) ≡ ages
 unfolding agesFrom

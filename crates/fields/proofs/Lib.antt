@@ -1,3 +1,4 @@
 pub mod Accepted
 pub mod Buffers
 pub mod Laws
+pub mod Onward

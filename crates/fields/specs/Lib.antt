@@ -1,4 +1,6 @@
-pub mod Refusals
-pub mod Layout
-pub mod Amounts
+pub mod Outcomes
 pub mod Quantities
+pub mod Refusals
+pub mod Limits
+pub mod Sizes
+pub mod Given

@@ -1,82 +1,43 @@
--- The quantities of document 01, "The card", by their names, read off the numbered fields. Assumes nothing.
-use Prim.Native.Nat.{ℕ, zero, suc, _+_, _-_, _*_}
+-- The promise rests on it. Document 01, "The card": how its fields are set and numbered, and the quantities that they are, by name.
+use Prim.Native.Nat.{ℕ, suc, _+_, _*_, zero, _-_}
+use mathlib.Core.Bool.{Bool}
 use mathlib.Core.List.{List, [], _∷_}
+use lib.Dec.{eqb}
 use lib.ListN.{getD, drop}
-use Rattle.fields.specs.Layout.{headFields, perSegment, perAge}
+use Rattle.fields.specs.declared.refusal.Reading.{Reading}
+use Rattle.fields.specs.Outcomes.{Outcome, OrRefusal, Gives, Refuses}
 
--- field k of document 01 is element k - 1
-abbrev pub field : ℕ → List ℕ → ℕ
-field k fields = getD fields (k - 1) 0
+-- "14-column fields"
+abbrev pub columns : ℕ
+columns = 14
 
--- Line 1
-abbrev pub kindCode : List ℕ → ℕ
-kindCode fields = field 1 fields
+-- Line 4: "23 segments s .. 24 ages n", the last of the fields of lines 1 to 4
+abbrev pub segmentsField : ℕ
+segmentsField = 23
 
-abbrev pub steelCode : List ℕ → ℕ
-steelCode fields = field 2 fields
+abbrev pub agesField : ℕ
+agesField = 24
 
-abbrev pub ultimateStrength : List ℕ → ℕ
-ultimateStrength fields = field 3 fields
+abbrev pub headFields : ℕ
+headFields = agesField
 
-abbrev pub jackingStress : List ℕ → ℕ
-jackingStress fields = field 4 fields
+-- "s lines: segment kind, length, rise"; "n lines: age in hours, moment added then"
+abbrev pub perSegment : ℕ
+perSegment = 3
 
-abbrev pub deflectorLoss : List ℕ → ℕ
-deflectorLoss fields = field 5 fields
+abbrev pub perAge : ℕ
+perAge = 2
 
-abbrev pub slip : List ℕ → ℕ
-slip fields = field 6 fields
+-- "Fields of segments and ages are numbered on from 25."
+abbrev pub firstSegmentField : ℕ
+firstSegmentField = suc headFields
 
-abbrev pub tendonLength : List ℕ → ℕ
-tendonLength fields = field 7 fields
+abbrev pub firstAgeField : ℕ → ℕ
+firstAgeField segments = firstSegmentField + perSegment * segments
 
--- Line 2
-abbrev pub cureCode : List ℕ → ℕ
-cureCode fields = field 8 fields
-
-abbrev pub concreteCode : List ℕ → ℕ
-concreteCode fields = field 9 fields
-
-abbrev pub Es : List ℕ → ℕ
-Es fields = field 10 fields
-
-abbrev pub Eci : List ℕ → ℕ
-Eci fields = field 11 fields
-
-abbrev pub Ec : List ℕ → ℕ
-Ec fields = field 12 fields
-
-abbrev pub volumeToSurface : List ℕ → ℕ
-volumeToSurface fields = field 13 fields
-
--- Line 3
-abbrev pub area : List ℕ → ℕ
-area fields = field 14 fields
-
-abbrev pub inertia : List ℕ → ℕ
-inertia fields = field 15 fields
-
-abbrev pub eccentricity : List ℕ → ℕ
-eccentricity fields = field 16 fields
-
-abbrev pub steelArea : List ℕ → ℕ
-steelArea fields = field 17 fields
-
-abbrev pub ownWeightMoment : List ℕ → ℕ
-ownWeightMoment fields = field 18 fields
-
--- Line 4
-abbrev pub endOfCuring : List ℕ → ℕ
-endOfCuring fields = field 19 fields
-
-abbrev pub transfer : List ℕ → ℕ
-transfer fields = field 20 fields
-
-abbrev pub wobble : List ℕ → ℕ
-wobble fields = field 21 fields
-
-abbrev pub curvature : List ℕ → ℕ
-curvature fields = field 22 fields
+-- how many fields a card or a list has
+abbrev pub fieldsIn : ℕ → ℕ → ℕ
+fieldsIn segments ages = headFields + perSegment * segments + perAge * ages
 
 -- "s lines: segment kind, length, rise"; a bend has its angle in the third field
 pub record Segment : Type 0 where
@@ -84,22 +45,112 @@ pub record Segment : Type 0 where
   pub length : ℕ
   pub rise : ℕ
 
-unfoldable pub segmentsFrom : ℕ → List ℕ → List Segment
-segmentsFrom zero fields = []
-segmentsFrom (suc count) fields =
-    record { kind = getD fields 0 0; length = getD fields 1 0; rise = getD fields 2 0 } ∷ segmentsFrom count (drop perSegment fields)
-
-abbrev pub segmentsOf : ℕ → List ℕ → List Segment
-segmentsOf segments fields = segmentsFrom segments (drop headFields fields)
-
 -- "n lines: age in hours, moment added then"
 pub record Age : Type 0 where
   pub hour : ℕ
   pub moment : ℕ
 
+-- one thing for each field of "Line 1" to "Line 4" but the counts, with a path and ages
+pub record OfFields (A : Type 0) : Type 0 where
+  pub kind : A
+  pub steel : A
+  pub ultimateStrength : A
+  pub jackingStress : A
+  pub deflectorLoss : A
+  pub slip : A
+  pub tendonLength : A
+  pub cure : A
+  pub concrete : A
+  pub Es : A
+  pub Eci : A
+  pub Ec : A
+  pub volumeToSurface : A
+  pub area : A
+  pub inertia : A
+  pub eccentricity : A
+  pub steelArea : A
+  pub ownWeightMoment : A
+  pub endOfCuring : A
+  pub transfer : A
+  pub wobble : A
+  pub curvature : A
+  pub path : List Segment
+  pub ages : List Age
+
+-- a card's or a list's quantities
+abbrev pub Quantities : Type 0
+Quantities = OfFields ℕ
+
+-- which field is which, by its number
+abbrev pub quantitiesBy : (ℕ → ℕ) → List Segment → List Age → Quantities
+quantitiesBy field path ages = record {
+  kind = field 1;
+  steel = field 2;
+  ultimateStrength = field 3;
+  jackingStress = field 4;
+  deflectorLoss = field 5;
+  slip = field 6;
+  tendonLength = field 7;
+  cure = field 8;
+  concrete = field 9;
+  Es = field 10;
+  Eci = field 11;
+  Ec = field 12;
+  volumeToSurface = field 13;
+  area = field 14;
+  inertia = field 15;
+  eccentricity = field 16;
+  steelArea = field 17;
+  ownWeightMoment = field 18;
+  endOfCuring = field 19;
+  transfer = field 20;
+  wobble = field 21;
+  curvature = field 22;
+  path = path;
+  ages = ages;
+}
+
+-- the number of each field, by its name
+abbrev pub fieldNumber : Quantities
+fieldNumber = quantitiesBy (λ number. number) [] []
+
+-- "kind (1 pretensioned, ..)", "cure (1 moist, ..)", and the kinds of a segment
+abbrev pub isPretensioned : Quantities → Bool
+isPretensioned q = eqb (q .kind) 1
+
+abbrev pub isMoist : Quantities → Bool
+isMoist q = eqb (q .cure) 1
+
+abbrev pub straight : ℕ
+straight = 1
+
+abbrev pub parabola : ℕ
+parabola = 2
+
+abbrev pub bend : ℕ
+bend = 3
+
+-- ---- from the numbered fields, of which field k is element k - 1
+
+unfoldable pub segmentsFrom : ℕ → List ℕ → List Segment
+segmentsFrom zero fields = []
+segmentsFrom (suc count) fields =
+    record { kind = getD fields 0 0; length = getD fields 1 0; rise = getD fields 2 0 } ∷ segmentsFrom count (drop perSegment fields)
+
 unfoldable pub agesFrom : ℕ → List ℕ → List Age
 agesFrom zero fields = []
 agesFrom (suc count) fields = record { hour = getD fields 0 0; moment = getD fields 1 0 } ∷ agesFrom count (drop perAge fields)
 
-abbrev pub agesOf : ℕ → ℕ → List ℕ → List Age
-agesOf segments ages fields = agesFrom ages (drop (headFields + perSegment * segments) fields)
+-- with so many segments and ages
+abbrev pub quantitiesOf : ℕ → ℕ → List ℕ → Quantities
+quantitiesOf segments ages fields =
+    quantitiesBy (λ number. getD fields (number - 1) 0) (segmentsFrom segments (drop headFields fields))
+    (agesFrom ages (drop (headFields + perSegment * segments) fields))
+
+-- what a reader's numbers are, or its refusal
+abbrev pub quantitiesIn : Reading → List ℕ → OrRefusal Quantities
+quantitiesIn (Reading.Fields segments ages) fields = Gives (quantitiesOf segments ages fields)
+quantitiesIn (Reading.Not refusal) fields = Refuses refusal
+
+abbrev pub quantitiesRead : Outcome → OrRefusal Quantities
+quantitiesRead outcome = quantitiesIn (outcome .reading) (outcome .numbers)

@@ -1,29 +1,34 @@
--- The numbers and places of document 01, "Refusal by place of checking", row by row. Assumes nothing.
+-- The promise rests on it. The numbers and places of document 01, "Refusal by place of checking", row by row.
 use Prim.Native.Nat.{ℕ}
+use mathlib.Core.Bool.{Bool}
+use lib.Dec.{eqb}
+use Rattle.fields.specs.Quantities.{fieldNumber}
 use Rattle.fields.specs.declared.refusal.Refusal.{Refusal}
-use Rattle.fields.specs.declared.refusal.Refusal.the-variants.{Shape, Doubles, Codes, Ranges, Hours, Duct, Buffers}
-use Rattle.fields.specs.declared.refusal.Refusal.the-variants.{Section, Creep, Stress}
 
 abbrev pub number : Refusal → ℕ
-number (Shape line) = 8
-number (Doubles field) = 9
-number (Codes field) = 1
-number (Ranges field) = 2
-number (Hours field) = 3
-number (Duct place) = 4
-number (Buffers place) = 10
-number Section = 5
-number Creep = 6
-number (Stress age) = 7
+number (Refusal.Shape line) = 8
+number (Refusal.Doubles field) = 9
+number (Refusal.Codes field) = 1
+number (Refusal.Ranges field) = 2
+number (Refusal.Hours field) = 3
+number (Refusal.Duct place) = 4
+number (Refusal.Buffers place) = 10
+number Refusal.Section = 5
+number Refusal.Creep = 6
+number (Refusal.Stress age) = 7
 
 abbrev pub place : Refusal → ℕ
-place (Shape line) = line
-place (Doubles field) = field
-place (Codes field) = field
-place (Ranges field) = field
-place (Hours field) = field
-place (Duct p) = p
-place (Buffers p) = p
-place Section = 14
-place Creep = 17
-place (Stress age) = age
+place (Refusal.Shape line) = line
+place (Refusal.Doubles field) = field
+place (Refusal.Codes field) = field
+place (Refusal.Ranges field) = field
+place (Refusal.Hours field) = field
+place (Refusal.Duct p) = p
+place (Refusal.Buffers p) = p
+place Refusal.Section = fieldNumber .area
+place Refusal.Creep = fieldNumber .steelArea
+place (Refusal.Stress age) = age
+
+-- "refusal 7 alone may alter the scratch"
+abbrev pub mayAlterScratch : Refusal → Bool
+mayAlterScratch refusal = eqb (number refusal) 7

@@ -1,25 +1,30 @@
-// How the fields of a card or a list are numbered, and how many there can be. Field k of document 01 is element k - 1.
-
+// How the fields of a card or a list are numbered. Field k of document 01 is element k - 1.
+ghost use mathlib.Core.Path.{_≡_};
+ghost use Prim.Native.Nat.{_≤_};
+ghost use lib.ListN.{length, drop};
 use crate::places;
 
 // Fields by their numbers.
 pub const SLIP: usize = places::SLIP + 1;
 
-pub const SEGMENTS: usize = 23;
+pub const SEGMENTS: usize = places::SEGMENTS + 1;
 
-pub const AGES: usize = 24;
+pub const AGES: usize = places::AGES + 1;
 
 // Fields of the first four lines, of a segment and of an age.
-pub const HEAD_FIELDS: usize = 24;
+pub const HEAD_FIELDS: usize = AGES;
 
 pub const PER_SEGMENT: usize = 3;
 
 pub const PER_AGE: usize = 2;
 
-pub const MOST_SEGMENTS: usize = 64;
+// The number of the first segment's first field.
+pub const FIRST_SEGMENT: u64 = (HEAD_FIELDS + 1) as u64;
 
-pub const LEAST_AGES: usize = 3;
-
-pub const MOST_AGES: usize = 64;
-
-pub const MOST_FIELDS: usize = HEAD_FIELDS + PER_SEGMENT * MOST_SEGMENTS + PER_AGE * MOST_AGES;
+// The numbers from an element on.
+pub fn from_element(numbers: &[u64], element: usize) -> &[u64]
+    requires { ⌜ element ≤ length (now numbers) ⌝ }
+    ensures { λ r. ⌜ now r ≡ drop element (now (numbers .entry)) ⌝ }
+{
+    &numbers[element..]
+}

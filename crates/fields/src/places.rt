@@ -44,6 +44,10 @@ pub const WOBBLE: usize = 20;
 
 pub const CURVATURE: usize = 21;
 
+pub const SEGMENTS: usize = 22;
+
+pub const AGES: usize = 23;
+
 pub const PRETENSIONED: u64 = 1;
 
 pub const STRESS_RELIEVED: u64 = 1;

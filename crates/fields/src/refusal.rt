@@ -1,6 +1,12 @@
 // Refusals, and what reading a card or a list gives.
 ghost use mathlib.Core.Path.{_≡_};
 ghost use Rattle.fields.specs.Refusals.{number, place};
+use crate::places;
+
+// The fields that the rows "section" and "creep" give as their places.
+const AREA_FIELD: u64 = (places::AREA + 1) as u64;
+
+const STEEL_AREA_FIELD: u64 = (places::STEEL_AREA + 1) as u64;
 
 // A case for each row of document 01's table, with its place where that varies.
 pub enum Refusal {
@@ -20,6 +26,12 @@ pub enum Refusal {
 pub enum Reading {
     Fields(u64, u64),
     Not(Refusal),
+}
+
+// A number, or the refusal that stands in its place.
+pub enum NumberOrRefusal {
+    Number(u64),
+    Refused(Refusal),
 }
 
 pub fn number_of(refusal: Refusal) -> u64
@@ -50,8 +62,8 @@ pub fn place_of(refusal: Refusal) -> u64
         Refusal::Hours(field) => field,
         Refusal::Duct(check) => check,
         Refusal::Buffers(buffer) => buffer,
-        Refusal::Section => 14,
-        Refusal::Creep => 17,
+        Refusal::Section => AREA_FIELD,
+        Refusal::Creep => STEEL_AREA_FIELD,
         Refusal::Stress(age) => age,
     }
 }

@@ -15,7 +15,8 @@
 -- `identity` shows a ≈ b of two that are the same polynomial. Assumes nothing.
 use mathlib.Core.List.{List, [], _∷_}
 use Prim.Native.Nat.{ℕ, _+_}
-use Rattle.fraction.specs.Fraction.{Fraction, whole, _⊕_, _⊖_, _⊗_, _≈_, _≼_}
+use Rattle.fraction.specs.Fraction.{Fraction, whole, _⊕_, _⊖_, _⊗_, _≼_}
+use Rattle.fraction.specs.Equality.{_≈_}
 use Rattle.fraction.proofs.Polynomial.{Expression, atom, number, _+ᵉ_, _*ᵉ_, Same, nth, value, solve}
 use Rattle.fraction.proofs.Laws.{fractions, ≈-refl, ≈-sym, _⨾_, ≼-refl, ≼-trans, ≼-of-≈, ≼-resp-≈}
 use Rattle.fraction.proofs.Laws.{⊕-comm, ⊕-assoc, ⊕-cong, ⊕-mono, ⊕-mono-left, ⊕-cancel, ⊕-cancel-≈, zero-⊕}

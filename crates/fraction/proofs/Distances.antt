@@ -3,7 +3,8 @@
 -- one of them, certified by `follows`, and the law takes that for x and y and for y and x. Assumes nothing.
 use mathlib.Core.List.{[], _∷_}
 use mathlib.Core.Logic.{⊎-elim}
-use Rattle.fraction.specs.Fraction.{Fraction, whole, _⊕_, _⊖_, _⊗_, _≈_, _≼_, larger, Within}
+use Rattle.fraction.specs.Fraction.{Fraction, whole, _⊕_, _⊖_, _⊗_, _≼_, larger, Within}
+use Rattle.fraction.specs.Equality.{_≈_}
 use Rattle.fraction.proofs.Laws.{≈-refl, ≈-sym, ≼-refl, ≼-trans, ≼-of-≈, ≼-resp-≈, ≼-total}
 use Rattle.fraction.proofs.Laws.{⊕-cong, ⊕-mono, larger-left, larger-right, larger-least}
 use Rattle.fraction.proofs.Certificate.{num, _⊞_, _⊟_, _⊠_, _⊑_, _≐_, _⊛_, _⊢_, follows}

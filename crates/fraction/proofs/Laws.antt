@@ -10,7 +10,8 @@ use native.Mathlib.Nat.{mul-pos, le-dest, le-of-eq, mul-le-mul-left, mul-le-mul-
 use native.Mathlib.Nat.{le-of-mul-le-mul-left, eq-of-mul-eq-mul-left}
 use native.Mathlib.Omega.{arith}
 use lib.Dec.{T, leb, leb→le, nleb→lt}
-use Rattle.fraction.specs.Fraction.{Fraction, whole, _⊕_, _⊖_, _⊗_, opposite, cross, _≈_, _≼_, larger}
+use Rattle.fraction.specs.Fraction.{Fraction, whole, _⊕_, _⊖_, _⊗_, opposite, cross, _≼_, larger}
+use Rattle.fraction.specs.Equality.{_≈_}
 use Rattle.fraction.proofs.Polynomial.{Expression, atom, _+ᵉ_, _*ᵉ_, Semiring, naturals, solve}
 
 -- ---- a fraction as three unknown naturals, with the sum, the product and the cross product of the definitions
@@ -215,9 +216,6 @@ one-⊗ x = record { equal = omega arith }
 pub ⊗-not-negative : {x y : Fraction} → whole 0 ≼ x → whole 0 ≼ y → whole 0 ≼ x ⊗ y
 ⊗-not-negative {x} {y} h k = ≼-trans (≼-of-≈ (≈-sym (zero-⊗ y))) (⊗-mono-left y k h)
 
-pub ⊕-not-negative : {x y : Fraction} → whole 0 ≼ x → whole 0 ≼ y → whole 0 ≼ x ⊕ y
-⊕-not-negative h k = ≼-trans (≼-of-≈ (≈-sym (zero-⊕ (whole 0)))) (⊕-mono h k)
-
 -- fractions are a semiring, so that `solve` is for them too
 abbrev pub fractions : Semiring
 fractions = record {
@@ -293,6 +291,3 @@ larger-cong h k = ≈-of-≼ (larger-mono (≼-of-≈ h) (≼-of-≈ k)) (larger
 
 pub larger-is-left : {x y : Fraction} → y ≼ x → larger x y ≈ x
 larger-is-left {x} {y} h = ≈-of-≼ (larger-least ≼-refl h) (larger-left x y)
-
-pub larger-is-right : {x y : Fraction} → x ≼ y → larger x y ≈ y
-larger-is-right {x} {y} h = ≈-of-≼ (larger-least h ≼-refl) (larger-right x y)

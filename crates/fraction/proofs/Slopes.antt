@@ -5,7 +5,8 @@
 -- times a hinge. Assumes nothing.
 use mathlib.Core.List.{[], _∷_}
 use mathlib.Core.Logic.{⊎-elim}
-use Rattle.fraction.specs.Fraction.{Fraction, whole, _⊕_, _⊖_, _⊗_, _≈_, _≼_, larger, Within}
+use Rattle.fraction.specs.Fraction.{Fraction, whole, _⊕_, _⊖_, _⊗_, _≼_, larger, Within}
+use Rattle.fraction.specs.Equality.{_≈_}
 use Rattle.fraction.proofs.Laws.{≈-refl, ≼-refl, ≼-trans, ≼-resp-≈, ≼-total, ⊕-cong, ⊕-mono, ⊗-mono-left}
 use Rattle.fraction.proofs.Laws.{larger-cases, larger-left, larger-right, larger-least, larger-mono}
 use Rattle.fraction.proofs.Certificate.{num, _⊞_, _⊟_, _⊠_, _⊑_, _⊛_, _⊢_, follows}
@@ -60,14 +61,6 @@ slow-scaled {κ} {ax} {ay} {x} {y} w p w≥0 wκ≤p y≤x a = record {
       (num 0 ⊑ W) ⊛ (AX ⊞ K ⊠ Y ⊑ AY ⊞ K ⊠ X) ∷ (W ⊠ K ⊑ P) ⊛ (Y ⊑ X) ∷ []
       ⊢ W ⊠ AX ⊞ P ⊠ Y ⊑ W ⊠ AY ⊞ P ⊠ X) tt
       (w≥0, a .slope) (wκ≤p, y≤x);
-}
-
-pub slow-weaken : {p q ax ay x y : Fraction} → p ≼ q → y ≼ x → Slow p ax ay x y → Slow q ax ay x y
-slow-weaken {p} {q} {ax} {ay} {x} {y} p≤q y≤x a = record {
-  rises = a .rises;
-  slope = follows (p ∷ q ∷ ax ∷ ay ∷ x ∷ y ∷ [])
-      (λ P Q AX AY X Y. AX ⊞ P ⊠ Y ⊑ AY ⊞ P ⊠ X ∷ (P ⊑ Q) ⊛ (Y ⊑ X) ∷ [] ⊢ AX ⊞ Q ⊠ Y ⊑ AY ⊞ Q ⊠ X) tt
-      (a .slope) (p≤q, y≤x);
 }
 
 -- equals for the values of the part
@@ -189,18 +182,28 @@ ordered-keep-distance p e ax ay x y p≤2 y≤x h a = record {
       (a .slope) (p≤2, y≤x) h;
 }
 
+-- a step brings no two stresses up to `most` further apart
+abbrev pub KeepsDistance : Fraction → (Fraction → Fraction) → Type 0
+KeepsDistance most step = (e x y : Fraction) → x ≼ most → y ≼ most → Within e x y → Within e (step x) (step y)
+
+-- what does not depend on the stress
+pub constant-keeps-distance : (most s : Fraction) → KeepsDistance most (λ x. x ⊖ s)
+constant-keeps-distance most s e x y hx hy h = record {
+  above = follows (e ∷ s ∷ x ∷ y ∷ []) (λ E S X Y. X ⊑ Y ⊞ E ∷ [] ⊢ X ⊟ S ⊑ Y ⊟ S ⊞ E) tt (h .above);
+  below = follows (e ∷ s ∷ x ∷ y ∷ []) (λ E S X Y. Y ⊑ X ⊞ E ∷ [] ⊢ Y ⊟ S ⊑ X ⊟ S ⊞ E) tt (h .below);
+}
+
 -- a part of slope at most 2
 pub part-keeps-distance : (most p : Fraction) (a : Fraction → Fraction) → SlowTo most p a → p ≼ whole 2 →
-    (e x y : Fraction) → x ≼ most → y ≼ most → Within e x y → Within e (x ⊖ a x) (y ⊖ a y)
+    KeepsDistance most (λ x. x ⊖ a x)
 part-keeps-distance most p a slow p≤2 e x y hx hy h = ⊎-elim
     (λ x≤y. within-sym (ordered-keep-distance p e (a y) (a x) y x p≤2 x≤y (h .below) (slow y x x≤y hy)))
     (λ y≤x. ordered-keep-distance p e (a x) (a y) x y p≤2 y≤x (h .above) (slow x y y≤x hx))
     (≼-total x y)
 
--- two parts of slopes that sum to at most 2, and one that does not depend on the stress
+-- two parts of slopes that sum to at most 2, and between them one that does not depend on the stress
 pub parts-keep-distance : (most p q s : Fraction) (a b : Fraction → Fraction) →
-    SlowTo most p a → SlowTo most q b → p ⊕ q ≼ whole 2 →
-    (e x y : Fraction) → x ≼ most → y ≼ most → Within e x y → Within e (x ⊖ (a x ⊕ b x ⊕ s)) (y ⊖ (a y ⊕ b y ⊕ s))
-parts-keep-distance most p q s a b slow-a slow-b p+q≤2 = part-keeps-distance most (p ⊕ q ⊕ whole 0) (λ z. a z ⊕ b z ⊕ s)
-    (λ x y y≤x hx. slow-sum (slow-sum (slow-a x y y≤x hx) (slow-b x y y≤x hx)) (slow-constant s x y))
-    (follows (p ∷ q ∷ []) (λ P Q. P ⊞ Q ⊑ num 2 ∷ [] ⊢ P ⊞ Q ⊞ num 0 ⊑ num 2) tt p+q≤2)
+    SlowTo most p a → SlowTo most q b → p ⊕ q ≼ whole 2 → KeepsDistance most (λ x. x ⊖ (a x ⊕ s ⊕ b x))
+parts-keep-distance most p q s a b slow-a slow-b p+q≤2 = part-keeps-distance most (p ⊕ whole 0 ⊕ q) (λ z. a z ⊕ s ⊕ b z)
+    (λ x y y≤x hx. slow-sum (slow-sum (slow-a x y y≤x hx) (slow-constant s x y)) (slow-b x y y≤x hx))
+    (follows (p ∷ q ∷ []) (λ P Q. P ⊞ Q ⊑ num 2 ∷ [] ⊢ P ⊞ num 0 ⊞ Q ⊑ num 2) tt p+q≤2)

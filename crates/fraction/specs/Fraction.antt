@@ -1,13 +1,11 @@
--- Document 01: "A fraction is a whole number over a positive one, and two are compared by cross products."
--- The whole number may be negative. It is kept as a difference of two naturals, up − down: the kit's integers lack distributivity
--- and an order that agrees with it, and so every law of fractions is one of + and × on naturals. Assumes nothing.
-use mathlib.Core.Path.{_≡_}
+-- The promise rests on it. Document 01: "A fraction is a whole number over a positive one, and two are compared by cross products." The
+-- whole number is a difference of two naturals, up − down, so that every law of fractions is one of + and × on naturals.
 use mathlib.Core.Bool.{cond}
 use Prim.Native.Nat.{ℕ, _+_, _*_, _≤_, _<_}
 use native.Mathlib.Nat.{mul-pos}
 use lib.Dec.{leb, lit<}
 
-infix 40 _≈_ _≼_
+infix 40 _≼_
 infixl 75 _⊕_ _⊖_
 infixl 80 _⊗_
 -- (up − down) / den
@@ -16,10 +14,6 @@ pub record Fraction : Type 0 where
   pub down : ℕ
   pub den : ℕ
   pub positive : 0 < den
-
--- a / b
-unfoldable pub over : (a b : ℕ) → 0 < b → Fraction
-over a b h = record { up = a; down = 0; den = b; positive = h }
 
 -- n / 1
 unfoldable pub whole : ℕ → Fraction
@@ -51,10 +45,6 @@ x ⊗ y = record {
 -- adds instead, and each side is a natural: x's is `cross x y`, y's is `cross y x`.
 abbrev pub cross : Fraction → Fraction → ℕ
 cross x y = x .up * y .den + y .down * x .den
-
--- x = y
-pub record _≈_ (x y : Fraction) : Type 0 where
-  pub equal : cross x y ≡ cross y x
 
 -- x ≤ y
 pub record _≼_ (x y : Fraction) : Type 0 where

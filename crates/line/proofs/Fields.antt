@@ -9,10 +9,10 @@ use native.Mathlib.Omega.{arith}
 use lib.Dec.{lit<}
 use lib.ListN.{length, getD, take, drop, drop-of-length-le}
 use lib.Seq.{drop-cons, getD-take, length-take-le}
-use borrow.Author.Tests.{lt-ltb, le-ltb, le-leb, lt-leb, eq-eqb, ne-eqb}
+use borrow.Author.Tests.{le-leb, lt-leb, eq-eqb, ne-eqb}
 use Rattle.line.specs.declared.Field.the-variants.{Number, Blank, Wrong}
-use Rattle.fields.specs.Layout.{columns}
-use Rattle.line.specs.Line.{space, spacesIn, digitsOf, fieldAt}
+use Rattle.fields.specs.Quantities.{columns}
+use Rattle.line.specs.Lines.{space, zeroDigit, nineDigit, spacesIn, digitsOf, fieldOf}
 
 -- `column` columns are spaces
 pub record Spaces (part : List ℕ) (column : ℕ) : Type 0 where
@@ -75,24 +75,24 @@ module _ {part : List ℕ} {i : ℕ} (p : Spaces part i) where
 
 module _ {part : List ℕ} {first i number : ℕ} (p : Digits part first i number) where
   module _ (h : i < columns) where
-    pub a-digit : (digit : ℕ) → 48 ≤ getD part i 0 → getD part i 0 ≤ 57 → digit ≡ getD part i 0 - 48
+    pub a-digit : (digit : ℕ) → zeroDigit ≤ getD part i 0 → getD part i 0 ≤ nineDigit → digit ≡ getD part i 0 - zeroDigit
         → Digits part first (i + 1) (number * 10 + digit)
     unfolding digitsOf
     a-digit digit low high e =
         record {
           room = p .room;
           small = bound i number digit h (p .small) (omega arith) .0;
-          is = p .is ∙ rw (next part (p .room) i h, le-leb 48 (getD part i 0) low, le-leb (getD part i 0) 57 high, e);
+          is = p .is ∙ rw (next part (p .room) i h, le-leb zeroDigit (getD part i 0) low, le-leb (getD part i 0) nineDigit high, e);
         }
 
-    pub below-digits : getD part i 0 < 48 → Wrong ≡ digitsOf 0 (drop first (take columns part))
+    pub below-digits : getD part i 0 < zeroDigit → Wrong ≡ digitsOf 0 (drop first (take columns part))
     unfolding digitsOf
-    below-digits low = sym (p .is ∙ rw (next part (p .room) i h, lt-leb 48 (getD part i 0) low))
+    below-digits low = sym (p .is ∙ rw (next part (p .room) i h, lt-leb zeroDigit (getD part i 0) low))
 
-    pub above-digits : 48 ≤ getD part i 0 → 57 < getD part i 0 → Wrong ≡ digitsOf 0 (drop first (take columns part))
+    pub above-digits : zeroDigit ≤ getD part i 0 → nineDigit < getD part i 0 → Wrong ≡ digitsOf 0 (drop first (take columns part))
     unfolding digitsOf
     above-digits low high =
-        sym (p .is ∙ rw (next part (p .room) i h, le-leb 48 (getD part i 0) low, lt-leb (getD part i 0) 57 high))
+        sym (p .is ∙ rw (next part (p .room) i h, le-leb zeroDigit (getD part i 0) low, lt-leb (getD part i 0) nineDigit high))
 
   pub all-digits : columns ≤ i → Number number ≡ digitsOf 0 (drop first (take columns part))
   unfolding digitsOf
@@ -100,18 +100,15 @@ module _ {part : List ℕ} {first i number : ℕ} (p : Digits part first i numbe
 
 -- ---- the field, by how many spaces it begins with
 
-pub ends-early : (part : List ℕ) → length part < columns → Wrong ≡ fieldAt part
-ends-early part h = rw (lt-ltb (length part) columns h)
-
 module _ (part : List ℕ) (room : columns ≤ length part) (first : ℕ) (e : first ≡ spacesIn (take columns part)) where
-  pub blank : first ≡ columns → Blank ≡ fieldAt part
+  pub blank : first ≡ columns → Blank ≡ fieldOf (take columns part)
   blank f =
       let l : length (take columns part) ≡ columns = length-take-le columns part room in
       let all : spacesIn (take columns part) ≡ length (take columns part) = omega arith in
-      sym (rw (le-ltb (length part) columns room, eq-eqb (spacesIn (take columns part)) (length (take columns part)) all))
+      sym (rw (eq-eqb (spacesIn (take columns part)) (length (take columns part)) all))
 
-  pub numbered : (first ≡ columns → ⊥) → digitsOf 0 (drop first (take columns part)) ≡ fieldAt part
+  pub numbered : (first ≡ columns → ⊥) → digitsOf 0 (drop first (take columns part)) ≡ fieldOf (take columns part)
   numbered ne =
       let l : length (take columns part) ≡ columns = length-take-le columns part room in
       let some : spacesIn (take columns part) ≡ length (take columns part) → ⊥ = λ f. ne (omega arith) in
-      rw (le-ltb (length part) columns room, ne-eqb (spacesIn (take columns part)) (length (take columns part)) some, e)
+      rw (ne-eqb (spacesIn (take columns part)) (length (take columns part)) some, e)

@@ -1,3 +1,5 @@
 pub mod Laws
-pub mod Amounts
+pub mod LineByLine
+pub mod Behind
+mod Amounts
 mod Fields

@@ -1,13 +1,21 @@
-// A line of a card, and its fields.
+// A line of some fields, of which one may be blank.
 ghost use mathlib.Core.Path.{_≡_};
 ghost use Prim.Native.Nat.{_≤_};
 ghost use lib.ListN.{length, take, drop};
-ghost use Rattle.fields.specs.Layout.{columns};
-ghost use Rattle.fields.specs.Amounts.{over};
-ghost use Rattle.line.specs.Line.{spacesIn, digitsOf, fieldAt, amountOf, isRight, lineNumbers};
+ghost use Rattle.fields.specs.Quantities.{columns};
+ghost use Rattle.fields.specs.Outcomes.{over};
+ghost use Rattle.line.specs.Lines.{spacesIn, digitsOf, fieldOf, blankReads, amountOf, isRight, lineNumbers};
 ghost use Rattle.line.specs.Conditions.{LineFits};
-use fields::layout::SLIP;
+
+pub mod lines;
+
 use ticks::Amount;
+
+// The field that may be blank, by its number, and what it then reads.
+pub enum MayBeBlank {
+    NoField,
+    Only { field: usize, reads: u64 },
+}
 
 // What stands in a field's 14 columns.
 pub enum Field {
@@ -25,9 +33,6 @@ pub const ZERO: u8 = b'0';
 const NINE: u8 = b'9';
 
 pub const LINE_FEED: u8 = b'\n';
-
-// What a blank slip reads, in ticks.
-const BLANK_SLIP: u64 = 256;
 
 fn wide(byte: u8) -> u64
     ensures { λ r. ⌜ r ≡ byte ⌝ }
@@ -72,12 +77,10 @@ fn digits(part: &[u8], first: usize) -> Field
 }
 
 // The field whose first column is the front of `part`.
-pub fn read_field(part: &[u8]) -> Field
-    ensures { λ r. ⌜ r ≡ fieldAt (now (part .entry)) ⌝ }
+fn read_field(part: &[u8]) -> Field
+    requires { ⌜ columns ≤ length (now part) ⌝ }
+    ensures { λ r. ⌜ r ≡ fieldOf (take columns (now (part .entry))) ⌝ }
 {
-    if part.len() < COLUMNS {
-        return Field::Wrong;
-    }
     let first = leading_spaces(part);
     if first == COLUMNS {
         return Field::Blank;
@@ -85,29 +88,47 @@ pub fn read_field(part: &[u8]) -> Field
     digits(part, first)
 }
 
+// What field number `field` reads where it is blank.
+fn blank_reads(blank: MayBeBlank, field: usize) -> Amount
+    ensures { λ r. ⌜ r ≡ blankReads blank field ⌝ }
+{
+    let MayBeBlank::Only {
+        field: blank_field,
+        reads,
+    } = blank
+    else {
+        return Amount::Refused;
+    };
+    if field == blank_field {
+        Amount::Of(reads)
+    } else {
+        Amount::Refused
+    }
+}
+
 // What field number `field` reads.
-fn amount_of(field: usize, found: Field) -> Amount
-    ensures { λ r. ⌜ r ≡ amountOf field found ⌝ }
+fn amount_of(blank: MayBeBlank, field: usize, found: Field) -> Amount
+    ensures { λ r. ⌜ r ≡ amountOf blank field found ⌝ }
 {
     match found {
         Field::Number(number) => Amount::Of(number),
-        Field::Blank => {
-            if field == SLIP {
-                Amount::Of(BLANK_SLIP)
-            } else {
-                Amount::Refused
-            }
-        }
+        Field::Blank => blank_reads(blank, field),
         Field::Wrong => Amount::Refused,
     }
 }
 
 // The line at the front of `part`: `count` fields, the first of them numbered `field`. Whether it is right; the numbers before
 // its first wrong field are written at the front of `fields`.
-pub fn read_line(part: &[u8], count: usize, field: usize, fields: &mut [u64]) -> bool
+pub fn read_line(
+    part: &[u8],
+    blank: MayBeBlank,
+    count: usize,
+    field: usize,
+    fields: &mut [u64],
+) -> bool
     requires { ⌜ LineFits count field (now fields) ⌝ }
-    ensures { λ r. ⌜ r ≡ isRight count field (now (part .entry)) ⌝ }
-    ensures { λ r. ⌜ now (fields .exit) ≡ over (lineNumbers count field (now (part .entry))) (now (fields .entry)) ⌝ }
+    ensures { λ r. ⌜ r ≡ isRight blank count field (now (part .entry)) ⌝ }
+    ensures { λ r. ⌜ now (fields .exit) ≡ over (lineNumbers blank count field (now (part .entry))) (now (fields .entry)) ⌝ }
 {
     let end = COLUMNS * count;
     if part.len() <= end {
@@ -119,7 +140,7 @@ pub fn read_line(part: &[u8], count: usize, field: usize, fields: &mut [u64]) ->
     let mut done = 0usize;
     let mut at = 0usize;
     while done < count {
-        let Amount::Of(number) = amount_of(field + done, read_field(&part[at..])) else {
+        let Amount::Of(number) = amount_of(blank, field + done, read_field(&part[at..])) else {
             return false;
         };
         fields[done] = number;

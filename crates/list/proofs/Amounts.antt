@@ -12,7 +12,7 @@ use lib.ListN.{length, getD, length-append}
 use borrow.Author.Tests.{lt-ltb, le-ltb, le-leb, lt-leb}
 use Rattle.ticks.specs.declared.Amount.{Amount}
 use Rattle.ticks.specs.declared.Amount.the-variants.{Refused}
-use Rattle.fields.specs.Layout.{headFields, perSegment, firstSegmentField, firstAgeField}
+use Rattle.fields.specs.Quantities.{headFields, perSegment, firstSegmentField, firstAgeField}
 use Rattle.list.specs.Lists.{inTicks, headInTicks, segmentInTicks, ageInTicks, amountIn, amountsBy, amountsOf}
 use Rattle.list.specs.Measures.{headAmounts, segmentsAmounts, agesAmounts}
 

@@ -16,8 +16,8 @@ use Rattle.fields.specs.declared.refusal.Reading.{Reading}
 use Rattle.fields.specs.declared.refusal.Reading.the-variants.{Fields, Not}
 use Rattle.fields.specs.declared.refusal.Refusal.{Refusal}
 use Rattle.fields.specs.declared.refusal.Refusal.the-variants.{Shape, Doubles, Ranges}
-use Rattle.fields.specs.Layout.{segmentsField, agesField, mostSegments, leastAges, mostAges}
-use Rattle.fields.specs.Layout.{headFields, fieldsIn}
+use Rattle.fields.specs.Quantities.{segmentsField, agesField, headFields, fieldsIn}
+use Rattle.fields.specs.Limits.{mostSegments, leastAges, mostAges}
 use Rattle.fields.proofs.Laws.{ages-in-range}
 use Rattle.list.specs.Lists.{withCount, countIn, countsIn}
 

@@ -17,8 +17,8 @@ use Rattle.ticks.proofs.Laws.{ticks-below, whole-below}
 use Rattle.fields.specs.declared.refusal.Reading.{Reading}
 use Rattle.fields.specs.declared.refusal.Reading.the-variants.{Fields, Not}
 use Rattle.fields.specs.declared.refusal.Refusal.{Refusal}
-use Rattle.fields.specs.Layout.{segmentsField, agesField, headFields}
-use Rattle.fields.specs.Amounts.{numbersIn, allRead, refused, accepted}
+use Rattle.fields.specs.Quantities.{segmentsField, agesField, headFields}
+use Rattle.fields.specs.Outcomes.{numbersIn, allRead, refused, accepted}
 use Rattle.list.specs.Lists.{inTicks, amountIn, amountsBy, amountsOf, withCounts, countsIn, listOutcome}
 use Rattle.fields.proofs.Accepted.{Accepted}
 use Rattle.list.proofs.Amounts.{part-length, part-at}

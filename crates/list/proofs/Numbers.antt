@@ -11,10 +11,10 @@ use lib.Seq.{take-suc, drop-cons, set-at, length-take-le, take-all, split-at}
 use borrow.Rule.Slice.PartMut.{midOf, putMid}
 use Rattle.ticks.specs.declared.Amount.{Amount}
 use Rattle.ticks.specs.declared.Amount.the-variants.{Of, Refused}
-use Rattle.fields.specs.Amounts.{numbersIn, over}
+use Rattle.fields.specs.Outcomes.{numbersIn, over}
 use Rattle.fields.proofs.Laws.{numbers-append}
 use Rattle.fields.proofs.Buffers.{length-over, written-behind}
-use Rattle.list.specs.Lists.{Written}
+use Rattle.list.specs.Measures.{Written}
 
 -- ---- field by field
 
@@ -39,7 +39,7 @@ module _ {amounts : List Amount} {old now : List ℕ} {at : ℕ} (f : Front amou
   pub finished : length amounts ≤ at → Written amounts old now at
   finished h =
       let numbers : numbersIn (take at amounts) ≡ numbersIn amounts = ap numbersIn (take-all at amounts h) in
-      (sym (f .all) ∙ ap length numbers, f .is ∙ ap (λ (l : List ℕ). over l old) numbers)
+      record { count-is = sym (f .all) ∙ ap length numbers; buffer-is = f .is ∙ ap (λ (l : List ℕ). over l old) numbers }
 
   -- the next field, as it is read
   module _ {amount : Amount} (more : at < length amounts) (next : getD amounts at Refused ≡ amount) where
@@ -71,7 +71,10 @@ module _ {amounts : List Amount} {old now : List ℕ} {at : ℕ} (f : Front amou
         ap numbersIn (split-at amounts at Refused more)
         ∙ ap (λ (a : Amount). numbersIn (take at amounts ++ (a ∷ drop (suc at) amounts))) (next ∙ e)
         ∙ behind (Refused ∷ drop (suc at) amounts) ∙ append-nil done in
-        (sym (ap length numbers ∙ f .all), f .is ∙ ap (λ (l : List ℕ). over l old) (sym numbers))
+        record {
+          count-is = sym (ap length numbers ∙ f .all);
+          buffer-is = f .is ∙ ap (λ (l : List ℕ). over l old) (sym numbers);
+        }
 
 -- ---- part by part
 
@@ -89,29 +92,34 @@ numbers-cut (Refused ∷ xs) ys h = refl
 
 module _ (xs : List Amount) (old : List ℕ) {now : List ℕ} {read : ℕ} (w : Written xs old now read) where
   pub count-within : read ≤ length xs
-  count-within = let count = w .0 in let within = numbers-within xs in omega arith
+  count-within = let count = w .count-is in let within = numbers-within xs in omega arith
 
   pub kept : length xs ≤ length old → length now ≡ length old
-  kept h = let within = numbers-within xs in ap length (w .1) ∙ length-over (numbersIn xs) old (omega arith)
+  kept h = let within = numbers-within xs in ap length (w .buffer-is) ∙ length-over (numbersIn xs) old (omega arith)
 
   -- a field of the first part is refused
   pub cut : (ys : List Amount) → read < length xs → Written (xs ++ ys) old now read
   cut ys h =
-      let count = w .0 in
+      let count = w .count-is in
       let numbers = numbers-cut xs ys (omega arith) in
-      (w .0 ∙ ap length (sym numbers), w .1 ∙ ap (λ (l : List ℕ). over l old) (sym numbers))
+      record {
+        count-is = w .count-is ∙ ap length (sym numbers);
+        buffer-is = w .buffer-is ∙ ap (λ (l : List ℕ). over l old) (sym numbers);
+      }
 
   -- none is, and the second part is read behind it
   pub joined : (ys : List Amount) (at : ℕ) {part : List ℕ} {more : ℕ}
       → length xs ≡ at → at ≤ read → Written ys (midOf at (length now - at) now) part more
       → Written (xs ++ ys) old (putMid at (length now - at) now part) (at + more)
   joined ys at {part} {more} long all v =
-      let count = w .0 in
-      let behind = v .0 in
+      let count = w .count-is in
+      let behind = v .count-is in
       let within = numbers-within xs in
       let numbers : numbersIn (xs ++ ys) ≡ numbersIn xs ++ numbersIn ys = numbers-append xs ys (omega arith) in
-      let sum = length-append (numbersIn xs) (numbersIn ys) in (
-        rw numbers (omega arith),
-        written-behind (numbersIn xs) (numbersIn ys) old now part at (omega arith) (w .1) (v .1)
-            ∙ ap (λ (l : List ℕ). over l old) (sym numbers),
-      )
+      let sum = length-append (numbersIn xs) (numbersIn ys) in
+      record {
+        count-is = rw numbers (omega arith);
+        buffer-is =
+            written-behind (numbersIn xs) (numbersIn ys) old now part at (omega arith) (w .buffer-is) (v .buffer-is)
+            ∙ ap (λ (l : List ℕ). over l old) (sym numbers);
+      }

@@ -12,9 +12,11 @@ use Rattle.fields.specs.declared.refusal.Reading.{Reading}
 use Rattle.fields.specs.declared.refusal.Reading.the-variants.{Fields, Not}
 use Rattle.fields.specs.declared.refusal.Refusal.{Refusal}
 use Rattle.fields.specs.declared.refusal.Refusal.the-variants.{Doubles}
-use Rattle.fields.specs.Layout.{mostFields, headFields, perSegment}
-use Rattle.fields.specs.Amounts.{numbersIn, over}
-use Rattle.list.specs.Lists.{inTicks, amountsOf, Written, countsIn, listOutcome}
+use Rattle.fields.specs.Quantities.{headFields, perSegment}
+use Rattle.fields.specs.Sizes.{mostFields}
+use Rattle.fields.specs.Outcomes.{numbersIn, over}
+use Rattle.list.specs.Lists.{inTicks, amountsOf, countsIn, listOutcome}
+use Rattle.list.specs.Measures.{Written}
 use Rattle.list.proofs.Amounts.{part-length}
 use Rattle.list.proofs.Numbers.{numbers-within}
 use Rattle.list.proofs.Counting.{counts-accepted}
@@ -39,16 +41,16 @@ module _ (list : List Float) (old after : List ℕ) {reading : Reading} {s n rea
   pub field-refused : read < length list → Gives list old (Not (Doubles (read + 1))) after
   unfolding listOutcome
   field-refused h =
-      let count = written .0 in
+      let count = written .count-is in
       let amounts = part-length (inTicks s) 1 list in
       rw (← counts, e, ne-eqb (length (numbersIn (amountsOf s 1 list))) (length (amountsOf s 1 list)) (λ all. omega arith))
-      (ap (λ (k : ℕ). Not (Doubles k)) (add-one read ∙ ap suc count), written .1)
+      (ap (λ (k : ℕ). Not (Doubles k)) (add-one read ∙ ap suc count), written .buffer-is)
 
   pub fields-read : length list ≤ read → Gives list old (Fields s n) after
   unfolding listOutcome
   fields-read h =
-      let count = written .0 in
+      let count = written .count-is in
       let amounts = part-length (inTicks s) 1 list in
       let within = numbers-within (amountsOf s 1 list) in
       rw (← counts, e, eq-eqb (length (numbersIn (amountsOf s 1 list))) (length (amountsOf s 1 list)) (omega arith))
-      (refl, written .1)
+      (refl, written .buffer-is)

@@ -9,9 +9,9 @@ use lib.ListN.{length, take, drop, length-append, length-drop, take-append-drop}
 use lib.Seq.{take-add, take-all, length-take-le}
 use borrow.Rule.Slice.PartMut.{midOf, putMid}
 use Rattle.ticks.specs.declared.Amount.{Amount}
-use Rattle.fields.specs.Layout.{headFields, perSegment}
-use Rattle.list.specs.Lists.{inTicks, headInTicks, segmentInTicks, amountsOf, Written}
-use Rattle.list.specs.Measures.{headAmounts, segmentsAmounts, agesAmounts}
+use Rattle.fields.specs.Quantities.{headFields, perSegment}
+use Rattle.list.specs.Lists.{inTicks, headInTicks, segmentInTicks, amountsOf}
+use Rattle.list.specs.Measures.{Written, headAmounts, segmentsAmounts, agesAmounts}
 use Rattle.list.proofs.Amounts.{part-length, by-parts}
 use Rattle.list.proofs.Numbers.{count-within, cut, joined}
 

@@ -13,15 +13,15 @@ use borrow.Author.Tests.{eq-eqb, ne-eqb, eqb-true}
 use borrow.Rule.Slice.PartMut.{midOf, putMid}
 use Rattle.ticks.specs.declared.Amount.{Amount}
 use Rattle.ticks.specs.declared.Amount.the-variants.{Of, Refused}
-use Rattle.fields.specs.Layout.{perSegment}
-use Rattle.fields.specs.Amounts.{numbersIn}
+use Rattle.fields.specs.Quantities.{perSegment, straight, parabola, bend}
+use Rattle.fields.specs.Outcomes.{numbersIn}
 use Rattle.fields.proofs.Buffers.{tail}
 use Rattle.list.specs.declared.Segment.the-variants.{Straight, Parabola, Bend}
 use Rattle.list.specs.declared.Entry.{Entry}
 use Rattle.list.specs.declared.Entry.the-variants.{Listed, Unlisted}
 use Rattle.list.specs.declared.SegmentAmounts.{SegmentAmounts}
-use Rattle.list.specs.Lists.{ticksIn, wholeIn, segmentInTicks, Written, amountsBy}
-use Rattle.list.specs.Measures.{is, isStraight, isParabola, isBend, entryOf, amountsOfEntry, inOrder, segmentsAmounts}
+use Rattle.list.specs.Lists.{ticksIn, wholeIn, segmentInTicks, amountsBy}
+use Rattle.list.specs.Measures.{Written, is, isStraight, isParabola, isBend, entryOf, amountsOfEntry, inOrder, segmentsAmounts}
 use Rattle.list.proofs.Amounts.{part-length, part-append}
 use Rattle.list.proofs.Numbers.{count-within, kept, cut, joined}
 
@@ -41,19 +41,19 @@ unless-second a e = rw e (and-false a)
 
 -- what the doubles are held as, by the tests that lead there
 module _ (kind second third : Float) where
-  pub straight : is (wholeIn kind) 1 ≡ true → is (ticksIn third) 0 ≡ true → Listed (Straight second) ≡ entryOf kind second third
-  straight code rise = rw (code, rise)
+  pub is-straight : is (wholeIn kind) straight ≡ true → is (ticksIn third) 0 ≡ true → Listed (Straight second) ≡ entryOf kind second third
+  is-straight code rise = rw (code, rise)
 
   module _ (not-straight : isStraight kind third ≡ false) where
-    pub parabola : isParabola kind ≡ true → Listed (Parabola second third) ≡ entryOf kind second third
-    parabola code = rw (not-straight, code)
+    pub is-parabola : isParabola kind ≡ true → Listed (Parabola second third) ≡ entryOf kind second third
+    is-parabola code = rw (not-straight, code)
 
     module _ (not-parabola : isParabola kind ≡ false) where
-      pub bend : is (wholeIn kind) 3 ≡ true → is (ticksIn second) 0 ≡ true → Listed (Bend third) ≡ entryOf kind second third
-      bend code length = rw (not-straight, not-parabola, code, length)
+      pub is-bend : is (wholeIn kind) bend ≡ true → is (ticksIn second) 0 ≡ true → Listed (Bend third) ≡ entryOf kind second third
+      is-bend code length = rw (not-straight, not-parabola, code, length)
 
-      pub unlisted : isBend kind second ≡ false → Unlisted kind second third ≡ entryOf kind second third
-      unlisted not-bend = rw (not-straight, not-parabola, not-bend)
+      pub is-unlisted : isBend kind second ≡ false → Unlisted kind second third ≡ entryOf kind second third
+      is-unlisted not-bend = rw (not-straight, not-parabola, not-bend)
 
 -- ---- what they then read
 
@@ -80,9 +80,9 @@ module _ (kind second third : Float) where
       by-form (λ entry. inOrder (amountsOfEntry entry) ≡ doubles)
       (isStraight kind third) (isParabola kind) (isBend kind second)
       (Listed (Straight second)) (Listed (Parabola second third)) (Listed (Bend third)) (Unlisted kind second third)
-      (λ e. let t = both (wholeIn kind) (ticksIn third) 1 0 e in rw (t .0, t .1))
-      (λ e. rw (is-number (wholeIn kind) 2 e))
-      (λ e. let t = both (wholeIn kind) (ticksIn second) 3 0 e in rw (t .0, t .1))
+      (λ e. let t = both (wholeIn kind) (ticksIn third) straight 0 e in rw (t .0, t .1))
+      (λ e. rw (is-number (wholeIn kind) parabola e))
+      (λ e. let t = both (wholeIn kind) (ticksIn second) bend 0 e in rw (t .0, t .1))
       refl
 
 -- ---- one segment after the other
@@ -99,7 +99,14 @@ pub record Passed (part : List Float) (old now : List ℕ) (at : ℕ) : Type 0 w
 pub begins : (part : List Float) (old : List ℕ) → length part % perSegment ≡ 0 → length part ≤ length old → Passed part old old 0
 unfolding numbersIn amountsBy
 begins part old segments room =
-    record { segments = segments; room = room; whole = refl; within = omega arith; same = refl; read = (refl, refl) }
+    record {
+      segments = segments;
+      room = room;
+      whole = refl;
+      within = omega arith;
+      same = refl;
+      read = record { count-is = refl; buffer-is = refl };
+    }
 
 module _ {part : List Float} {old now : List ℕ} {at : ℕ} (p : Passed part old now at) where
   pub ends : length part ≤ at → Written (segmentsAmounts part) old now at

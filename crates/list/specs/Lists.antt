@@ -1,7 +1,5 @@
--- A list of doubles: document 01, "A host may instead lend one list of doubles", and the rows "card or list" and "doubles" of the
--- refusals. Assumes nothing.
+-- The promise rests on it. A list of doubles: document 01, "The card", and the rows "card or list" and "doubles" of the refusals.
 use Prim.Native.Nat.{ℕ, suc, _-_, _%_}
-use mathlib.Core.Path.{_≡_}
 use mathlib.Core.Bool.{Bool, true, false, not, _&&_, _||_, cond}
 use mathlib.Core.List.{List, [], _∷_}
 use lib.Dec.{leb, ltb, eqb}
@@ -9,15 +7,12 @@ use lib.Ieee.{Float, nan, toBits, binary64}
 use lib.ListN.{length, getD}
 use Rattle.ticks.specs.Doubles.{ticksOf, wholeOf}
 use Rattle.ticks.specs.declared.Amount.{Amount}
-use Rattle.ticks.specs.declared.Amount.the-variants.{Of, Refused}
 use Rattle.fields.specs.declared.refusal.Reading.{Reading}
-use Rattle.fields.specs.declared.refusal.Reading.the-variants.{Fields, Not}
-use Rattle.fields.specs.declared.refusal.Refusal.the-variants.{Shape, Doubles, Ranges}
-use Rattle.fields.specs.Layout.{segmentsField, agesField, mostSegments, agesOutOfRange, headFields, firstSegmentField}
-use Rattle.fields.specs.Layout.{firstAgeField, perSegment, perAge, fieldsIn}
-use Rattle.fields.specs.Amounts.{numbersIn, allRead, over, Outcome, refused, accepted}
-
--- ---- a field
+use Rattle.fields.specs.declared.refusal.Refusal.{Refusal}
+use Rattle.fields.specs.Quantities.{segmentsField, agesField, headFields, firstSegmentField, firstAgeField, perSegment, perAge}
+use Rattle.fields.specs.Quantities.{fieldsIn, fieldNumber}
+use Rattle.fields.specs.Limits.{mostSegments, agesOutOfRange}
+use Rattle.fields.specs.Outcomes.{numbersIn, allRead, Outcome, refused, accepted}
 
 -- "A field kept in ticks becomes the largest whole number of ticks not above it (-0.0 is 0); any other must be whole."
 abbrev pub ticksIn : Float → Amount
@@ -32,7 +27,8 @@ amountIn false x = wholeIn x
 
 -- "Kept in ticks: fields 6, 7, 13 to 18, a segment's length and rise (feet) and angle (radians), every moment."
 abbrev pub headInTicks : ℕ → Bool
-headInTicks field = eqb field 6 || eqb field 7 || (leb 13 field && leb field 18)
+headInTicks field =
+    eqb field (fieldNumber .slip) || eqb field (fieldNumber .tendonLength) || (leb (fieldNumber .volumeToSurface) field && leb field (fieldNumber .ownWeightMoment))
 
 -- of a segment's field, so many fields behind the head; and of an age's, behind the segments
 abbrev pub segmentInTicks : ℕ → Bool
@@ -56,10 +52,6 @@ amountsBy inTicks field (x ∷ xs) = amountIn (inTicks field) x ∷ amountsBy in
 abbrev pub amountsOf : ℕ → ℕ → List Float → List Amount
 amountsOf segments field list = amountsBy (inTicks segments) field list
 
--- a buffer into which such fields were read, up to the first that is refused, and how many these are
-abbrev pub Written : List Amount → List ℕ → List ℕ → ℕ → Type 0
-Written amounts old now count = (count ≡ length (numbersIn amounts)) × (now ≡ over (numbersIn amounts) old)
-
 -- field k is element k - 1
 abbrev pub fieldIn : ℕ → List Float → Float
 fieldIn field list = getD list (field - 1) nan
@@ -68,8 +60,8 @@ fieldIn field list = getD list (field - 1) nan
 
 -- "the counts in fields 23 and 24 are ranged while the shape is read, giving 2 (in a list 9 first, if 9 fits)"
 abbrev pub withCount : ℕ → Amount → (ℕ → Bool) → (ℕ → Reading) → Reading
-withCount field Refused outOfRange reading = Not (Doubles field)
-withCount field (Of count) outOfRange reading = cond (outOfRange count) (Not (Ranges field)) (reading count)
+withCount field Amount.Refused outOfRange reading = Reading.Not (Refusal.Doubles field)
+withCount field (Amount.Of count) outOfRange reading = cond (outOfRange count) (Reading.Not (Refusal.Ranges field)) (reading count)
 
 abbrev pub countIn : ℕ → List Float → Amount
 countIn field list = wholeIn (fieldIn field list)
@@ -78,21 +70,21 @@ countIn field list = wholeIn (fieldIn field list)
 -- either"
 unfoldable pub countsIn : List Float → Reading
 countsIn list =
-    cond (ltb (length list) headFields) (Not (Shape 0))
+    cond (ltb (length list) headFields) (Reading.Not (Refusal.Shape 0))
     (withCount segmentsField (countIn segmentsField list) (λ segments. ltb mostSegments segments)
     (λ segments. withCount agesField (countIn agesField list) agesOutOfRange
-    (λ ages. cond (eqb (length list) (fieldsIn segments ages)) (Fields segments ages) (Not (Shape 0)))))
+    (λ ages. cond (eqb (length list) (fieldsIn segments ages)) (Reading.Fields segments ages) (Reading.Not (Refusal.Shape 0)))))
 
 -- row "doubles": the first field that is refused
 abbrev pub doublesOf : ℕ → ℕ → List Amount → Outcome
 doublesOf segments ages amounts =
     cond (allRead amounts) (accepted segments ages (numbersIn amounts))
-    (refused (Doubles (suc (length (numbersIn amounts)))) (numbersIn amounts))
+    (refused (Refusal.Doubles (suc (length (numbersIn amounts)))) (numbersIn amounts))
 
 -- the fields in order, where the counts are right
 abbrev pub withCounts : Reading → List Float → Outcome
-withCounts (Fields segments ages) list = doublesOf segments ages (amountsOf segments 1 list)
-withCounts (Not refusal) list = refused refusal []
+withCounts (Reading.Fields segments ages) list = doublesOf segments ages (amountsOf segments 1 list)
+withCounts (Reading.Not refusal) list = refused refusal []
 
 -- What a list gives.
 unfoldable pub listOutcome : List Float → Outcome

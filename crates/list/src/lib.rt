@@ -1,24 +1,24 @@
 // The reader of lists of doubles.
 ghost use mathlib.Core.Path.{_≡_};
-ghost use Prim.Native.Nat.{_+_, _*_, _%_, _≤_, _<_};
-ghost use lib.ListN.{length, getD};
-ghost use lib.Ieee.{nan};
-ghost use Rattle.fields.specs.Layout.{headFields, perSegment};
-ghost use Rattle.fields.specs.Amounts.{over};
+ghost use Prim.Native.Nat.{_≤_};
+ghost use lib.ListN.{length};
+ghost use Rattle.fields.specs.Quantities.{headFields, perSegment};
+ghost use Rattle.fields.specs.Outcomes.{over};
 ghost use Rattle.list.specs.Lists.{ticksIn, amountIn, headInTicks, ageInTicks, fieldIn};
-ghost use Rattle.list.specs.Lists.{amountsOf, Written, countsIn, listOutcome};
-ghost use Rattle.list.specs.Measures.{is, measures, sectionOf, entryOf, amountsOfSegment, amountsOfEntry, inOrder};
-ghost use Rattle.list.specs.Measures.{headAmounts, segmentsAmounts, agesAmounts};
+ghost use Rattle.list.specs.Lists.{amountsOf, countsIn, listOutcome};
+ghost use Rattle.list.specs.Measures.{measureOf, sectionOf, is, entryOf, amountsOfSegment, amountsOfEntry, inOrder};
+ghost use Rattle.list.specs.Measures.{Written, headAmounts, segmentsAmounts, agesAmounts};
+ghost use Rattle.list.specs.Conditions.{SectionField, HeadField, HeadFits, SegmentsFit, ListFits};
 use fields::layout::AGES;
 use fields::layout::HEAD_FIELDS;
-use fields::layout::LEAST_AGES;
-use fields::layout::MOST_AGES;
-use fields::layout::MOST_FIELDS;
-use fields::layout::MOST_SEGMENTS;
 use fields::layout::PER_AGE;
 use fields::layout::PER_SEGMENT;
 use fields::layout::SEGMENTS;
 use fields::layout::SLIP;
+use fields::limits::LEAST_AGES;
+use fields::limits::MOST_AGES;
+use fields::limits::MOST_FIELDS;
+use fields::limits::MOST_SEGMENTS;
 use fields::places;
 use fields::refusal::Reading;
 use fields::refusal::Refusal;
@@ -30,6 +30,12 @@ const LENGTH: usize = places::TENDON_LENGTH + 1;
 const VOLUME_TO_SURFACE: usize = places::VOLUME_TO_SURFACE + 1;
 
 const AREA: usize = places::AREA + 1;
+
+const INERTIA: usize = places::INERTIA + 1;
+
+const ECCENTRICITY: usize = places::ECCENTRICITY + 1;
+
+const STEEL_AREA: usize = places::STEEL_AREA + 1;
 
 const OWN_WEIGHT_MOMENT: usize = places::OWN_WEIGHT_MOMENT + 1;
 
@@ -77,15 +83,15 @@ fn section_of(list: &[f64]) -> Section
 }
 
 // One of the section's five measures, in ticks.
-fn section_amount(section: Section, measure: usize) -> Amount
-    requires { ⌜ measure < length (measures section) ⌝ }
-    ensures { λ r. ⌜ r ≡ ticksIn (getD (measures section) measure nan) ⌝ }
+fn section_amount(section: Section, field: usize) -> Amount
+    requires { ⌜ SectionField field ⌝ }
+    ensures { λ r. ⌜ r ≡ ticksIn (measureOf section field) ⌝ }
 {
-    match measure {
-        0 => ticks::ticks_of_double(section.area),
-        1 => ticks::ticks_of_double(section.inertia),
-        2 => ticks::ticks_of_double(section.eccentricity),
-        3 => ticks::ticks_of_double(section.steel_area),
+    match field {
+        AREA => ticks::ticks_of_double(section.area),
+        INERTIA => ticks::ticks_of_double(section.inertia),
+        ECCENTRICITY => ticks::ticks_of_double(section.eccentricity),
+        STEEL_AREA => ticks::ticks_of_double(section.steel_area),
         _ => ticks::ticks_of_double(section.own_weight_moment),
     }
 }
@@ -187,13 +193,13 @@ fn write_segment(amounts: SegmentAmounts, fields: &mut [u64]) -> usize
 
 // One of fields 1 to 24.
 fn head_amount(list: &[f64], section: Section, field: usize) -> Amount
-    requires { ⌜ ((1 ≤ field) × (field ≤ headFields)) × ((headFields ≤ length (now list)) × (section ≡ sectionOf (now list))) ⌝ }
+    requires { ⌜ HeadField (now list) section field ⌝ }
     ensures { λ r. ⌜ r ≡ amountIn (headInTicks field) (fieldIn field (now (list .entry))) ⌝ }
 {
     let x = list[field - 1];
     match field {
         SLIP | LENGTH | VOLUME_TO_SURFACE => ticks::ticks_of_double(x),
-        AREA..=OWN_WEIGHT_MOMENT => section_amount(section, field - AREA),
+        AREA..=OWN_WEIGHT_MOMENT => section_amount(section, field),
         _ => ticks::whole_of_double(x),
     }
 }
@@ -210,7 +216,7 @@ fn age_amount(x: f64, past: usize) -> Amount
 
 // Writes the numbers of the head up to the first field that is refused, and gives how many these are.
 fn read_head(head: &[f64], fields: &mut [u64]) -> usize
-    requires { ⌜ (length (now head) ≡ headFields) × (headFields ≤ length (now fields)) ⌝ }
+    requires { ⌜ HeadFits (now head) (now fields) ⌝ }
     ensures { λ r. ⌜ Written (headAmounts (now (head .entry))) (now (fields .entry)) (now (fields .exit)) r ⌝ }
 {
     let section = section_of(head);
@@ -227,7 +233,7 @@ fn read_head(head: &[f64], fields: &mut [u64]) -> usize
 
 // The same of the segments: each is made once of its three doubles, and read as what it then is.
 fn read_segments(part: &[f64], fields: &mut [u64]) -> usize
-    requires { ⌜ (length (now part) % perSegment ≡ 0) × (length (now part) ≤ length (now fields)) ⌝ }
+    requires { ⌜ SegmentsFit (now part) (now fields) ⌝ }
     ensures { λ r. ⌜ Written (segmentsAmounts (now (part .entry))) (now (fields .entry)) (now (fields .exit)) r ⌝ }
 {
     let mut at = 0usize;
@@ -260,7 +266,7 @@ fn read_ages(part: &[f64], fields: &mut [u64]) -> usize
 
 // The same of the whole list, part by part.
 fn read_fields(list: &[f64], segments: usize, fields: &mut [u64]) -> usize
-    requires { ⌜ (length (now list) ≤ length (now fields)) × (headFields + perSegment * segments ≤ length (now list)) ⌝ }
+    requires { ⌜ ListFits (now list) segments (now fields) ⌝ }
     ensures { λ r. ⌜ Written (amountsOf segments 1 (now (list .entry))) (now (fields .entry)) (now (fields .exit)) r ⌝ }
 {
     let read = read_head(&list[..HEAD_FIELDS], fields);

@@ -7,7 +7,8 @@ use native.Mathlib.Nat.{pow-le-pow-left, pow-le-pow-right, lt-of-le-of-lt, lt-of
 use native.Mathlib.Nat.{not-le-of-lt}
 use native.Mathlib.Omega.{arith}
 use lib.Dec.{lit<, lit≤}
-use Rattle.logarithm.specs.Logarithm.{power, lastThreshold, serviceLife, logarithm, IsLargest}
+use Rattle.logarithm.specs.Logarithm.{power, lastThreshold, serviceLife, logarithm}
+use Rattle.logarithm.specs.Table.{IsLargest}
 use Rattle.logarithm.proofs.Largest.{no-more, is-reached, no-less, cut}
 
 pub never-falls : (earlier hour : ℕ) → earlier ≤ hour → logarithm earlier ≤ logarithm hour

@@ -8,7 +8,8 @@ use native.Mathlib.Omega.{arith}
 use lib.Dec.{T, leb, ltb, eqb, leb→le, ltb→lt, eqb→eq}
 use lib.Ieee.Fits.{and-l, and-r}
 use lib.ListN.{length, getD}
-use Rattle.logarithm.specs.Logarithm.{power, lastThreshold, IsThreshold, IsTable}
+use Rattle.logarithm.specs.Logarithm.{power, lastThreshold}
+use Rattle.logarithm.specs.Table.{IsThreshold, IsTable}
 use Rattle.logarithm.proofs.Entries.{every, entry}
 
 abbrev pub turns : ℕ → ℕ → Bool

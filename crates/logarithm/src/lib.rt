@@ -1,6 +1,7 @@
 // The logarithm of an hour, by a table of thresholds that is built once a run and lent.
 ghost use mathlib.Core.Path.{_≡_};
-ghost use Rattle.logarithm.specs.Logarithm.{logarithm, IsTable};
+ghost use Rattle.logarithm.specs.Logarithm.{logarithm};
+ghost use Rattle.logarithm.specs.Table.{IsTable};
 
 mod table;
 

@@ -1,19 +1,71 @@
--- κ, U and S of a section: document 01, "Steps", first lines. Assumes nothing.
-use Prim.Native.Nat.{ℕ, _+_, _*_, _/_, _^_}
+-- The promise rests on it. κ, U and S; X, and the stress along the path: document 01, "Steps", first lines and 1.
+use Prim.Native.Nat.{ℕ, _+_, _*_, _/_, _-_, _^_}
+use mathlib.Core.Bool.{cond}
+use mathlib.Core.List.{List, [], _∷_}
+use lib.Dec.{eqb}
+use Rattle.ticks.specs.Ticks.{ticksPerUnit, T}
+use Rattle.fields.specs.Quantities.{Segment, parabola, bend, Quantities}
+use Rattle.formulas.specs.Steps.{frictionLoss}
 use Rattle.coefficient.specs.declared.codes.Cure.{Cure}
 use Rattle.coefficient.specs.declared.codes.Concrete.{Concrete}
 use Rattle.coefficient.specs.Coefficients.{scf, ssf, mcf, ucr, ush}
 
+-- the unit of κ
+abbrev pub kappaUnit : ℕ
+kappaUnit = 2 ^ 32
+
+-- what is left of it beside the ticks of e²
+abbrev pub kappaOfSquares : ℕ
+kappaOfSquares = 4096
+
 -- "κ = Ap·2^32/A + 4096·Ap·e²/I, each part rounded"
 abbrev pub kappa : ℕ → ℕ → ℕ → ℕ → ℕ
 kappa steelArea area eccentricity inertia =
-    steelArea * 2 ^ 32 / area + 4096 * steelArea * (eccentricity * eccentricity) / inertia
+    steelArea * kappaUnit / area + kappaOfSquares * steelArea * (eccentricity * eccentricity) / inertia
+
+abbrev pub creepDivisor : ℕ
+creepDivisor = 439453125
+
+abbrev pub shrinkageDivisor : ℕ
+shrinkageDivisor = 10 ^ 8
 
 -- "U = UCR·SCF·MCF/439,453,125"
 abbrev pub wholeCreep : Cure → Concrete → ℕ → ℕ → ℕ → ℕ
 wholeCreep cure concrete ec volumeToSurface transfer =
-    ucr cure concrete ec * scf volumeToSurface * mcf cure transfer / 439453125
+    ucr cure concrete ec * scf volumeToSurface * mcf cure transfer / creepDivisor
 
 -- "S = USH·SSF/10^8"
 abbrev pub wholeShrinkage : Concrete → ℕ → ℕ → ℕ
-wholeShrinkage concrete ec volumeToSurface = ush concrete ec * ssf volumeToSurface / 10 ^ 8
+wholeShrinkage concrete ec volumeToSurface = ush concrete ec * ssf volumeToSurface / shrinkageDivisor
+
+-- ---- "1. Friction"
+
+abbrev pub million : ℕ
+million = 1000000
+
+-- "wobble·length·T/(1024·10^6)"
+abbrev pub wobblePart : ℕ → Segment → ℕ
+wobblePart wobble segment = wobble * segment .length * T / (ticksPerUnit * million)
+
+-- "curvature·angle·T/10^6 .. angle = 2·rise/length (document 002), itself unrounded, or angle ticks/1024 for a bend"
+abbrev pub curvaturePart : ℕ → Segment → ℕ
+curvaturePart curvature segment =
+    cond (eqb (segment .kind) bend) (curvature * segment .rise * T / (ticksPerUnit * million))
+    (cond (eqb (segment .kind) parabola) (curvature * (2 * segment .rise) * T / (segment .length * million)) 0)
+
+-- "X sums, per segment, .. rounded separately"
+unfoldable pub pathFriction : ℕ → ℕ → List Segment → ℕ
+pathFriction wobble curvature [] = 0
+pathFriction wobble curvature (segment ∷ segments) =
+    wobblePart wobble segment + curvaturePart curvature segment + pathFriction wobble curvature segments
+
+-- "Both stresses begin at the jacking stress", "(stress f in ticks)"
+abbrev pub jacked : Quantities → ℕ
+jacked q = q .jackingStress * ticksPerUnit
+
+-- "Loss f·X/T; the stress after j segments takes X of the first j": the loss along these segments, and the stress after them
+abbrev pub frictionAlong : Quantities → List Segment → ℕ
+frictionAlong q segments = frictionLoss (jacked q) (pathFriction (q .wobble) (q .curvature) segments)
+
+abbrev pub stressAlong : Quantities → List Segment → ℕ
+stressAlong q segments = jacked q - frictionAlong q segments

@@ -1,108 +1,114 @@
--- What is known of the fields of an accepted member, by document 01's names. Assumes nothing.
+-- It serves the code and the proofs alone. What is known of the quantities of an accepted member.
 use Prim.Native.Nat.{ℕ, _+_, _*_, _≤_, _<_, _^_}
 use mathlib.Core.Path.{_≡_}
 use mathlib.Core.Bool.{true, false}
 use mathlib.Core.List.{List, [], _∷_}
-use Rattle.fields.specs.Layout.{mostSegments}
-use Rattle.coefficient.specs.declared.clocks.MemberHours.{MemberHours}
+use lib.ListN.{length}
 use Rattle.logarithm.specs.Logarithm.{serviceLife}
-use Rattle.fields.specs.Quantities.{kindCode, steelCode, ultimateStrength, jackingStress, deflectorLoss, slip}
-use Rattle.fields.specs.Quantities.{tendonLength, cureCode, concreteCode, Es, Eci, Ec, volumeToSurface, area, inertia}
-use Rattle.fields.specs.Quantities.{eccentricity, steelArea, ownWeightMoment, endOfCuring, transfer, wobble, curvature}
-use Rattle.fields.specs.Quantities.{Segment, segmentsOf, Age, agesOf}
-use Rattle.member.specs.Friction.{parabola, bend}
-use Rattle.checks.specs.Rows.{isPretensioned, isMoist, mostMoment, mostFriction, perRow, mostKappa, mostCreepOfKappa}
-use Rattle.member.specs.Member.{kindOf, frictionOf, kappaOf, creepOf}
+use Rattle.fields.specs.Quantities.{perSegment, bend, Quantities, Segment, segmentsFrom, Age, isPretensioned, isMoist, straight}
+use Rattle.fields.specs.Quantities.{parabola}
+use Rattle.fields.specs.Limits.{range, mostOfStrength, hundredths, mostLength, mostMoment, leastStraight, leastParabola, mostRise}
+use Rattle.fields.specs.Limits.{mostAngle, leastMoistTransfer, mostSegments, mostFriction, reportRoom, scratchRoom, mostKappa}
+use Rattle.fields.specs.Limits.{mostCreepOfKappa}
+use Rattle.member.specs.Member.{frictionOf, kappaOf, creepOf}
 
 -- ---- segments
 
-abbrev pub straight : ℕ
-straight = 1
-
 pub record SegmentFits (segment : Segment) : Type 0 where
-  pub kind-least : 1 ≤ segment .kind
-  pub kind-most : segment .kind ≤ 3
-  pub length-most : segment .length ≤ 2097152
-  pub rise-most : segment .rise ≤ 65536
-  pub straight-length : segment .kind ≡ straight → 1 ≤ segment .length
+  pub kind-least : range .kind .low ≤ segment .kind
+  pub kind-most : segment .kind ≤ bend
+  pub length-most : segment .length ≤ mostLength
+  pub rise-most : segment .rise ≤ mostRise
+  pub straight-length : segment .kind ≡ straight → leastStraight ≤ segment .length
   pub straight-rise : segment .kind ≡ straight → segment .rise ≡ 0
-  pub parabola-length : segment .kind ≡ parabola → 1024 ≤ segment .length
+  pub parabola-length : segment .kind ≡ parabola → leastParabola ≤ segment .length
   pub bend-length : segment .kind ≡ bend → segment .length ≡ 0
-  pub bend-angle : segment .kind ≡ bend → segment .rise ≤ 4096
+  pub bend-angle : segment .kind ≡ bend → segment .rise ≤ mostAngle
 
 pub data SegmentsFit : List Segment → Type 0 where
   no-segment : SegmentsFit []
   segment-fits : {segment : Segment} {segments : List Segment} → SegmentFits segment → SegmentsFit segments
       → SegmentsFit (segment ∷ segments)
 
+-- what a segment's part of X is computed from: a wobble or a curvature up to its most, and a segment
+pub record PartFits (most factor : ℕ) (segment : Segment) : Type 0 where
+  pub factor-most : factor ≤ most
+  pub segment-fits : SegmentFits segment
+
 -- more than either part of a segment's friction can be
 abbrev pub mostPart : ℕ
 mostPart = 10 ^ 9
 
--- what friction is computed from
-pub record PathFits (segments : ℕ) (fields : List ℕ) : Type 0 where
+-- what X is computed from: segments with which `list` begins
+pub record PathFits (wobble curvature segments : ℕ) (list : List ℕ) : Type 0 where
+  pub room : perSegment * segments ≤ length list
   pub segments-most : segments ≤ mostSegments
-  pub wobble-most : wobble fields ≤ 2000
-  pub curvature-most : curvature fields ≤ 400000
-  pub segments-fit : SegmentsFit (segmentsOf segments fields)
+  pub wobble-most : wobble ≤ range .wobble .high
+  pub curvature-most : curvature ≤ range .curvature .high
+  pub segments-fit : SegmentsFit (segmentsFrom segments list)
 
 -- ---- the section
 
 pub record SectionFits (steelArea area eccentricity inertia : ℕ) : Type 0 where
-  pub area-least : 1024 ≤ area
-  pub area-most : area ≤ 2 ^ 24
-  pub inertia-least : 1024 ≤ inertia
-  pub inertia-most : inertia ≤ 2 ^ 34
-  pub eccentricity-most : eccentricity ≤ 65536
-  pub steel-area-least : 1 ≤ steelArea
-  pub steel-area-most : steelArea ≤ 65536
+  pub area-least : range .area .low ≤ area
+  pub area-most : area ≤ range .area .high
+  pub inertia-least : range .inertia .low ≤ inertia
+  pub inertia-most : inertia ≤ range .inertia .high
+  pub eccentricity-most : eccentricity ≤ range .eccentricity .high
+  pub steel-area-least : range .steelArea .low ≤ steelArea
+  pub steel-area-most : steelArea ≤ range .steelArea .high
 
--- more than U can be
+-- more than U can be: UCR is at most 95,000,000 millionths, SCF 1.05 and MCF 1.14
 abbrev pub mostCreep : ℕ
 mostCreep = 2 * 10 ^ 9
 
+-- more than S can be: USH is at most 41·10^9 millionths of psi, and SSF 1.04
+abbrev pub mostShrinkage : ℕ
+mostShrinkage = 5 * 10 ^ 7
+
+-- what a function gives, and a bound of it
+pub record AtMost (limit value r : ℕ) : Type 0 where
+  pub is : r ≡ value
+  pub most : r ≤ limit
+
 -- ---- lines 1 to 4
 
-pub record HeadFits (fields : List ℕ) : Type 0 where
-  pub kind-least : 1 ≤ kindCode fields
-  pub kind-most : kindCode fields ≤ 2
-  pub steel-least : 1 ≤ steelCode fields
-  pub steel-most : steelCode fields ≤ 2
-  pub cure-least : 1 ≤ cureCode fields
-  pub cure-most : cureCode fields ≤ 2
-  pub concrete-least : 1 ≤ concreteCode fields
-  pub concrete-most : concreteCode fields ≤ 2
-  pub ultimate-least : 100000 ≤ ultimateStrength fields
-  pub ultimate-most : ultimateStrength fields ≤ 300000
-  pub jacking-least : 1000 ≤ jackingStress fields
-  pub jacking-most : 100 * jackingStress fields ≤ 80 * ultimateStrength fields
-  pub deflector-most : deflectorLoss fields ≤ 20000
-  pub deflector-kind : isPretensioned fields ≡ false → deflectorLoss fields ≡ 0
-  pub slip-most : slip fields ≤ 2048
-  pub length-least : 1024 ≤ tendonLength fields
-  pub length-most : tendonLength fields ≤ 2097152
-  pub es-least : 20000000 ≤ Es fields
-  pub es-most : Es fields ≤ 32000000
-  pub eci-least : 1000000 ≤ Eci fields
-  pub eci-most : Eci fields ≤ 8000000
-  pub ec-least : 1000000 ≤ Ec fields
-  pub ec-most : Ec fields ≤ 8000000
-  pub volume-to-surface-least : 1024 ≤ volumeToSurface fields
-  pub volume-to-surface-most : volumeToSurface fields ≤ 65536
-  pub section : SectionFits (steelArea fields) (area fields) (eccentricity fields) (inertia fields)
-  pub own-weight-most : ownWeightMoment fields ≤ mostMoment
-  pub curing-most : endOfCuring fields ≤ transfer fields
-  pub curing-pretensioned : isPretensioned fields ≡ true → endOfCuring fields ≡ transfer fields
-  pub curing-moist : isMoist fields ≡ true → endOfCuring fields ≤ 168
-  pub transfer-least : 1 ≤ transfer fields
-  pub transfer-moist : isMoist fields ≡ true → 72 ≤ transfer fields
-  pub transfer-most : transfer fields ≤ 960
-  pub wobble-most : wobble fields ≤ 2000
-  pub curvature-most : curvature fields ≤ 400000
-
--- what starts a member's clocks
-abbrev pub hoursOf : List ℕ → MemberHours
-hoursOf fields = record { kind = kindOf fields; «end_of_curing» = endOfCuring fields; transfer = transfer fields }
+pub record HeadFits (q : Quantities) : Type 0 where
+  pub kind-least : range .kind .low ≤ q .kind
+  pub kind-most : q .kind ≤ range .kind .high
+  pub steel-least : range .kind .low ≤ q .steel
+  pub steel-most : q .steel ≤ range .kind .high
+  pub cure-least : range .kind .low ≤ q .cure
+  pub cure-most : q .cure ≤ range .kind .high
+  pub concrete-least : range .kind .low ≤ q .concrete
+  pub concrete-most : q .concrete ≤ range .kind .high
+  pub ultimate-least : range .ultimateStrength .low ≤ q .ultimateStrength
+  pub ultimate-most : q .ultimateStrength ≤ range .ultimateStrength .high
+  pub jacking-least : range .jackingStress .low ≤ q .jackingStress
+  pub jacking-most : hundredths * q .jackingStress ≤ mostOfStrength * q .ultimateStrength
+  pub deflector-most : q .deflectorLoss ≤ range .deflectorLoss .high
+  pub deflector-kind : isPretensioned q ≡ false → q .deflectorLoss ≡ 0
+  pub slip-most : q .slip ≤ range .slip .high
+  pub length-least : range .tendonLength .low ≤ q .tendonLength
+  pub length-most : q .tendonLength ≤ mostLength
+  pub es-least : range .Es .low ≤ q .Es
+  pub es-most : q .Es ≤ range .Es .high
+  pub eci-least : range .Ec .low ≤ q .Eci
+  pub eci-most : q .Eci ≤ range .Ec .high
+  pub ec-least : range .Ec .low ≤ q .Ec
+  pub ec-most : q .Ec ≤ range .Ec .high
+  pub volume-to-surface-least : range .volumeToSurface .low ≤ q .volumeToSurface
+  pub volume-to-surface-most : q .volumeToSurface ≤ range .volumeToSurface .high
+  pub section : SectionFits (q .steelArea) (q .area) (q .eccentricity) (q .inertia)
+  pub own-weight-most : q .ownWeightMoment ≤ mostMoment
+  pub curing-most : q .endOfCuring ≤ q .transfer
+  pub curing-pretensioned : isPretensioned q ≡ true → q .endOfCuring ≡ q .transfer
+  pub curing-moist : isMoist q ≡ true → q .endOfCuring ≤ range .endOfCuring .high
+  pub transfer-least : range .transfer .low ≤ q .transfer
+  pub transfer-moist : isMoist q ≡ true → leastMoistTransfer ≤ q .transfer
+  pub transfer-most : q .transfer ≤ range .transfer .high
+  pub wobble-most : q .wobble ≤ range .wobble .high
+  pub curvature-most : q .curvature ≤ range .curvature .high
 
 -- ---- ages
 
@@ -120,14 +126,14 @@ pub data MomentsWithin : ℕ → List Age → Type 0 where
 
 -- ---- an accepted member
 
-pub record Facts (segments ages : ℕ) (fields : List ℕ) (report scratch : ℕ) : Type 0 where
-  pub head : HeadFits fields
-  pub segments-fit : SegmentsFit (segmentsOf segments fields)
-  pub ages-rise : RisingFrom (transfer fields) (agesOf segments ages fields)
-  pub moments-fit : MomentsWithin (ownWeightMoment fields) (agesOf segments ages fields)
-  pub no-path : isPretensioned fields ≡ true → segments ≡ 0
-  pub friction-most : frictionOf segments fields ≤ mostFriction
-  pub report-room : perRow * ages ≤ report
-  pub scratch-room : perRow * ages ≤ scratch
-  pub kappa-most : kappaOf fields ≤ mostKappa
-  pub creep-most : creepOf fields * kappaOf fields ≤ mostCreepOfKappa
+pub record Facts (q : Quantities) (report scratch : ℕ) : Type 0 where
+  pub head : HeadFits q
+  pub segments-fit : SegmentsFit (q .path)
+  pub ages-rise : RisingFrom (q .transfer) (q .ages)
+  pub moments-fit : MomentsWithin (q .ownWeightMoment) (q .ages)
+  pub no-path : isPretensioned q ≡ true → length (q .path) ≡ 0
+  pub friction-most : frictionOf q ≤ mostFriction
+  pub report-room : reportRoom (length (q .ages)) ≤ report
+  pub scratch-room : scratchRoom (length (q .ages)) ≤ scratch
+  pub kappa-most : kappaOf q ≤ mostKappa
+  pub creep-most : creepOf q * kappaOf q ≤ mostCreepOfKappa

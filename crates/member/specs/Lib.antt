@@ -1,5 +1,4 @@
-pub mod Friction
 pub mod Constants
 pub mod Member
 pub mod Facts
-pub mod Stages
+pub mod Checking

@@ -1,93 +1,87 @@
--- Which refusal the fields of a card or a list get, row by row of document 01's table, or the accepted member. Assumes nothing.
+-- The promise rests on it. Which refusal quantities get, row by row from codes to creep, or the accepted member.
 use Prim.Native.Nat.{ℕ, _*_}
 use mathlib.Core.Bool.{cond}
-use mathlib.Core.List.{List}
-use lib.Dec.{ltb, eqb}
+use mathlib.Core.List.{List, [], _∷_, _++_}
+use lib.Dec.{eqb}
+use lib.ListN.{length}
 use Rattle.fields.specs.declared.refusal.Refusal.{Refusal}
-use Rattle.fields.specs.declared.refusal.Refusal.the-variants.{Codes, Ranges, Hours, Duct, Buffers, Section, Creep}
+use Rattle.fields.specs.Outcomes.{OrRefusal}
+use Rattle.fields.specs.Quantities.{Quantities, isPretensioned}
 use Rattle.coefficient.specs.declared.codes.Kind.{Kind}
-use Rattle.coefficient.specs.declared.codes.Kind.the-variants.{Pretensioned, PostTensioned}
 use Rattle.coefficient.specs.declared.codes.Cure.{Cure}
-use Rattle.coefficient.specs.declared.codes.Cure.the-variants.{Moist, Accelerated}
 use Rattle.coefficient.specs.declared.codes.Concrete.{Concrete}
-use Rattle.coefficient.specs.declared.codes.Concrete.the-variants.{Normal, Lightweight}
 use Rattle.coefficient.specs.declared.codes.Steel.{Steel}
-use Rattle.coefficient.specs.declared.codes.Steel.the-variants.{StressRelieved, LowRelaxation}
+use Rattle.coefficient.specs.declared.clocks.MemberHours.{MemberHours}
 use Rattle.member.specs.declared.Member.{Member}
-use Rattle.member.specs.declared.Checked.{Checked}
-use Rattle.member.specs.declared.Checked.the-variants.{Accepted, Refused}
-use Rattle.fields.specs.Quantities.{kindCode, steelCode, ultimateStrength, jackingStress, deflectorLoss, slip}
-use Rattle.fields.specs.Quantities.{tendonLength, cureCode, concreteCode, Es, Eci, Ec, volumeToSurface, area, inertia}
-use Rattle.fields.specs.Quantities.{eccentricity, steelArea, ownWeightMoment, endOfCuring, transfer, wobble, curvature}
-use Rattle.fields.specs.Quantities.{segmentsOf}
-use Rattle.member.specs.Friction.{pathFriction}
-use Rattle.member.specs.Constants.{kappa, wholeCreep, wholeShrinkage}
-use Rattle.checks.specs.Rows.{firstFailing, codes, ranges, hours, duct, isPretensioned, buffers, mostKappa}
-use Rattle.checks.specs.Rows.{mostCreepOfKappa}
+use Rattle.member.specs.Constants.{pathFriction, kappa, wholeCreep, wholeShrinkage}
+use Rattle.checks.specs.Rows.{CheckRow, row, checkedBy, codes, ranges, hours, duct, buffers, section, creep}
 
 -- "kind (1 pretensioned, 2 post-tensioned)", "steel (1 stress-relieved, 2 low-relaxation)", "cure (1 moist, 2 accelerated)",
 -- "concrete (1 normal, 2 lightweight)"
-abbrev pub kindOf : List ℕ → Kind
-kindOf fields = cond (eqb (kindCode fields) 1) Pretensioned PostTensioned
+abbrev pub kindOf : ℕ → Kind
+kindOf code = cond (eqb code 1) Kind.Pretensioned Kind.PostTensioned
 
-abbrev pub steelOf : List ℕ → Steel
-steelOf fields = cond (eqb (steelCode fields) 1) StressRelieved LowRelaxation
+abbrev pub steelOf : ℕ → Steel
+steelOf code = cond (eqb code 1) Steel.StressRelieved Steel.LowRelaxation
 
-abbrev pub cureOf : List ℕ → Cure
-cureOf fields = cond (eqb (cureCode fields) 1) Moist Accelerated
+abbrev pub cureOf : ℕ → Cure
+cureOf code = cond (eqb code 1) Cure.Moist Cure.Accelerated
 
-abbrev pub concreteOf : List ℕ → Concrete
-concreteOf fields = cond (eqb (concreteCode fields) 1) Normal Lightweight
+abbrev pub concreteOf : ℕ → Concrete
+concreteOf code = cond (eqb code 1) Concrete.Normal Concrete.Lightweight
 
--- X, κ, U and S of some fields
-abbrev pub frictionOf : ℕ → List ℕ → ℕ
-frictionOf segments fields = pathFriction (wobble fields) (curvature fields) (segmentsOf segments fields)
+-- what starts the clocks
+abbrev pub hoursOf : Quantities → MemberHours
+hoursOf q = record { kind = kindOf (q .kind); «end_of_curing» = q .endOfCuring; transfer = q .transfer }
 
-abbrev pub kappaOf : List ℕ → ℕ
-kappaOf fields = kappa (steelArea fields) (area fields) (eccentricity fields) (inertia fields)
+-- X, κ, U and S
+abbrev pub frictionOf : Quantities → ℕ
+frictionOf q = pathFriction (q .wobble) (q .curvature) (q .path)
 
-abbrev pub creepOf : List ℕ → ℕ
-creepOf fields = wholeCreep (cureOf fields) (concreteOf fields) (Ec fields) (volumeToSurface fields) (transfer fields)
+abbrev pub kappaOf : Quantities → ℕ
+kappaOf q = kappa (q .steelArea) (q .area) (q .eccentricity) (q .inertia)
 
-abbrev pub shrinkageOf : List ℕ → ℕ
-shrinkageOf fields = wholeShrinkage (concreteOf fields) (Ec fields) (volumeToSurface fields)
+abbrev pub creepOf : Quantities → ℕ
+creepOf q = wholeCreep (cureOf (q .cure)) (concreteOf (q .concrete)) (q .Ec) (q .volumeToSurface) (q .transfer)
 
--- the accepted member. Its segments and its ages stay in the fields.
-unfoldable pub memberOf : ℕ → ℕ → List ℕ → Member
-memberOf segments ages fields = record {
-  hours = record { kind = kindOf fields; «end_of_curing» = endOfCuring fields; transfer = transfer fields };
-  steel = steelOf fields;
-  «ultimate_strength» = ultimateStrength fields;
-  «jacking_stress» = jackingStress fields;
-  «deflector_loss» = deflectorLoss fields;
-  slip = slip fields;
-  length = tendonLength fields;
-  es = Es fields;
-  eci = Eci fields;
-  inertia = inertia fields;
-  eccentricity = eccentricity fields;
-  «own_weight_moment» = ownWeightMoment fields;
-  friction = frictionOf segments fields;
-  kappa = kappaOf fields;
-  creep = creepOf fields;
-  shrinkage = shrinkageOf fields;
-  segments = segments;
-  ages = ages;
+abbrev pub shrinkageOf : Quantities → ℕ
+shrinkageOf q = wholeShrinkage (concreteOf (q .concrete)) (q .Ec) (q .volumeToSurface)
+
+-- what the steps take of the quantities
+unfoldable pub memberOf : Quantities → Member
+memberOf q = record {
+  hours = hoursOf q;
+  steel = steelOf (q .steel);
+  «ultimate_strength» = q .ultimateStrength;
+  «jacking_stress» = q .jackingStress;
+  «deflector_loss» = q .deflectorLoss;
+  slip = q .slip;
+  length = q .tendonLength;
+  es = q .Es;
+  eci = q .Eci;
+  inertia = q .inertia;
+  eccentricity = q .eccentricity;
+  «own_weight_moment» = q .ownWeightMoment;
+  friction = frictionOf q;
+  kappa = kappaOf q;
+  creep = creepOf q;
+  shrinkage = shrinkageOf q;
+  ages = length (q .ages);
 }
 
--- a row of the table: the refusal at its first failing check, or what the rows below it say
-abbrev pub unlessFails : ℕ → (ℕ → Refusal) → Checked → Checked
-unlessFails place refusal below = cond (eqb place 0) below (Refused (refusal place))
+-- ---- "Refusal by place of checking, top to bottom"
 
--- "Refusal by place of checking, top to bottom", from codes to creep
-unfoldable pub checkedOf : ℕ → ℕ → List ℕ → ℕ → ℕ → Checked
-unfolding memberOf
-checkedOf segments ages fields report scratch =
-    unlessFails (firstFailing (codes segments fields)) Codes
-    (unlessFails (firstFailing (ranges segments ages fields)) Ranges
-    (unlessFails (firstFailing (hours segments ages fields)) Hours
-    (unlessFails (firstFailing (duct (isPretensioned fields) segments (frictionOf segments fields))) Duct
-    (unlessFails (firstFailing (buffers ages report scratch)) Buffers
-    (cond (ltb mostKappa (kappaOf fields)) (Refused Section)
-    (cond (ltb mostCreepOfKappa (creepOf fields * kappaOf fields)) (Refused Creep)
-    (Accepted (memberOf segments ages fields))))))))
+abbrev pub codesToDuct : Quantities → List CheckRow
+codesToDuct q =
+    row Refusal.Codes (codes q) ∷ row Refusal.Ranges (ranges q) ∷ row Refusal.Hours (hours q)
+    ∷ row Refusal.Duct (duct (isPretensioned q) (length (q .path)) (frictionOf q)) ∷ []
+
+-- with room for so many numbers in report and scratch
+abbrev pub buffersToCreep : Quantities → ℕ → ℕ → List CheckRow
+buffersToCreep q report scratch =
+    row Refusal.Buffers (buffers (length (q .ages)) report scratch) ∷ row (λ place. Refusal.Section) (section (kappaOf q))
+    ∷ row (λ place. Refusal.Creep) (creep (creepOf q * kappaOf q)) ∷ []
+
+unfoldable pub checkedOf : Quantities → ℕ → ℕ → OrRefusal Member
+unfolding checkedBy memberOf
+checkedOf q report scratch = checkedBy (codesToDuct q ++ buffersToCreep q report scratch) (memberOf q)

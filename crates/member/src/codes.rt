@@ -1,7 +1,6 @@
 // What the codes stand for, once they are listed.
 ghost use mathlib.Core.Path.{_≡_};
-ghost use mathlib.Core.Bool.{cond};
-ghost use lib.Dec.{eqb};
+ghost use Rattle.member.specs.Member.{kindOf, steelOf, cureOf, concreteOf};
 use coefficient::codes::Concrete;
 use coefficient::codes::Cure;
 use coefficient::codes::Kind;
@@ -9,7 +8,7 @@ use coefficient::codes::Steel;
 use fields::places;
 
 pub fn kind_of(code: u64) -> Kind
-    ensures { λ r. ⌜ r ≡ cond (eqb code 1) Kind.Pretensioned Kind.PostTensioned ⌝ }
+    ensures { λ r. ⌜ r ≡ kindOf code ⌝ }
 {
     if code == places::PRETENSIONED {
         Kind::Pretensioned
@@ -19,7 +18,7 @@ pub fn kind_of(code: u64) -> Kind
 }
 
 pub fn steel_of(code: u64) -> Steel
-    ensures { λ r. ⌜ r ≡ cond (eqb code 1) Steel.StressRelieved Steel.LowRelaxation ⌝ }
+    ensures { λ r. ⌜ r ≡ steelOf code ⌝ }
 {
     if code == places::STRESS_RELIEVED {
         Steel::StressRelieved
@@ -29,7 +28,7 @@ pub fn steel_of(code: u64) -> Steel
 }
 
 pub fn cure_of(code: u64) -> Cure
-    ensures { λ r. ⌜ r ≡ cond (eqb code 1) Cure.Moist Cure.Accelerated ⌝ }
+    ensures { λ r. ⌜ r ≡ cureOf code ⌝ }
 {
     if code == places::MOIST {
         Cure::Moist
@@ -39,7 +38,7 @@ pub fn cure_of(code: u64) -> Cure
 }
 
 pub fn concrete_of(code: u64) -> Concrete
-    ensures { λ r. ⌜ r ≡ cond (eqb code 1) Concrete.Normal Concrete.Lightweight ⌝ }
+    ensures { λ r. ⌜ r ≡ concreteOf code ⌝ }
 {
     if code == places::NORMAL {
         Concrete::Normal

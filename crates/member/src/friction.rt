@@ -1,30 +1,27 @@
 // X, the friction of a path.
 ghost use mathlib.Core.Path.{_≡_};
-ghost use Prim.Native.Nat.{_≤_};
-ghost use Rattle.fields.specs.Quantities.{wobble, curvature};
-ghost use Rattle.member.specs.Friction.{wobblePart, curvaturePart};
-ghost use Rattle.checks.specs.Parts.{segment};
-ghost use Rattle.member.specs.Facts.{SegmentFits, PathFits, mostPart};
-ghost use Rattle.member.specs.Member.{frictionOf};
-use fields::layout::HEAD_FIELDS;
-use fields::layout::MOST_FIELDS;
+ghost use Rattle.fields.specs.Quantities.{segmentsFrom};
+ghost use Rattle.fields.specs.Limits.{range};
+ghost use Rattle.checks.specs.Places.{segment};
+ghost use Rattle.member.specs.Constants.{wobblePart, curvaturePart, pathFriction};
+ghost use Rattle.member.specs.Facts.{PartFits, PathFits, mostPart, AtMost};
 use fields::layout::PER_SEGMENT;
 use fields::places;
-use tables::T;
+use ticks::T;
 use ticks::TICKS_PER_UNIT;
 
 const MILLION: u64 = 1_000_000;
 
 fn wobble_part(wobble: u64, kind: u64, length: u64, rise: u64) -> u64
-    requires { ⌜ (wobble ≤ 2000) × SegmentFits (segment kind length rise) ⌝ }
-    ensures { λ r. ⌜ (r ≡ wobblePart wobble (segment kind length rise)) × (r ≤ mostPart) ⌝ }
+    requires { ⌜ PartFits (range .wobble .high) wobble (segment kind length rise) ⌝ }
+    ensures { λ r. ⌜ AtMost mostPart (wobblePart wobble (segment kind length rise)) r ⌝ }
 {
     wobble * length * T / (TICKS_PER_UNIT * MILLION)
 }
 
 fn curvature_part(curvature: u64, kind: u64, length: u64, rise: u64) -> u64
-    requires { ⌜ (curvature ≤ 400000) × SegmentFits (segment kind length rise) ⌝ }
-    ensures { λ r. ⌜ (r ≡ curvaturePart curvature (segment kind length rise)) × (r ≤ mostPart) ⌝ }
+    requires { ⌜ PartFits (range .curvature .high) curvature (segment kind length rise) ⌝ }
+    ensures { λ r. ⌜ AtMost mostPart (curvaturePart curvature (segment kind length rise)) r ⌝ }
 {
     if kind == places::BEND {
         return curvature * rise * T / (TICKS_PER_UNIT * MILLION);
@@ -35,19 +32,18 @@ fn curvature_part(curvature: u64, kind: u64, length: u64, rise: u64) -> u64
     0
 }
 
-pub(crate) fn path_friction(fields: &[u64; MOST_FIELDS], segments: usize) -> u64
-    requires { ⌜ PathFits segments (now fields) ⌝ }
-    ensures { λ r. ⌜ r ≡ frictionOf segments (now (fields .entry)) ⌝ }
+// X of the segments with which `part` begins.
+pub fn path_friction(part: &[u64], segments: usize, wobble: u64, curvature: u64) -> u64
+    requires { ⌜ PathFits wobble curvature segments (now part) ⌝ }
+    ensures { λ r. ⌜ r ≡ pathFriction wobble curvature (segmentsFrom segments (now (part .entry))) ⌝ }
 {
-    let wobble = fields[places::WOBBLE];
-    let curvature = fields[places::CURVATURE];
     let mut friction = 0u64;
     let mut segment = 0usize;
     while segment < segments {
-        let at = HEAD_FIELDS + PER_SEGMENT * segment;
-        let kind = fields[at];
-        let length = fields[at + 1];
-        let rise = fields[at + 2];
+        let at = PER_SEGMENT * segment;
+        let kind = part[at];
+        let length = part[at + 1];
+        let rise = part[at + 2];
         friction += wobble_part(wobble, kind, length, rise);
         friction += curvature_part(curvature, kind, length, rise);
         segment += 1;

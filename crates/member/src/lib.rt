@@ -1,10 +1,14 @@
 // From numbered fields to an accepted member, or its refusal: codes, ranges, hours, duct, buffers, section and creep.
 ghost use mathlib.Core.Path.{_≡_};
-ghost use Prim.Native.Nat.{_≤_};
+ghost use Rattle.fields.specs.Given.{numberGiven};
+ghost use Rattle.fields.specs.Quantities.{quantitiesOf};
+ghost use Rattle.checks.specs.Rows.{checkedBy};
 ghost use Rattle.checks.specs.Readable.{Readable};
-ghost use Rattle.member.specs.Facts.{HeadFits, PathFits, mostCreep, hoursOf};
-ghost use Rattle.member.specs.Member.{frictionOf, creepOf, shrinkageOf, memberOf, checkedOf};
-ghost use Rattle.member.specs.Stages.{fromDuct, fromSection, Computed};
+ghost use Rattle.checks.specs.Places.{headOf};
+ghost use Rattle.member.specs.Facts.{HeadFits, mostCreep, AtMost};
+ghost use Rattle.member.specs.Member.{hoursOf, frictionOf, creepOf, shrinkageOf, memberOf, codesToDuct, buffersToCreep};
+ghost use Rattle.member.specs.Member.{checkedOf};
+ghost use Rattle.member.specs.Checking.{checked, BelowDuct, Computed};
 
 pub mod codes;
 pub mod friction;
@@ -12,8 +16,13 @@ pub mod section;
 
 use coefficient::clocks::MemberHours;
 use coefficient::codes::Steel;
-use fields::layout::MOST_FIELDS;
+use fields::layout::HEAD_FIELDS;
+use fields::layout::from_element;
+use fields::limits::MOST_CREEP_OF_KAPPA;
+use fields::limits::MOST_FIELDS;
+use fields::limits::MOST_KAPPA;
 use fields::places;
+use fields::refusal::NumberOrRefusal;
 use fields::refusal::Refusal;
 
 // What the run uses of an accepted member, by document 01's names. Its segments and its ages stay in the fields.
@@ -34,7 +43,6 @@ pub struct Member {
     pub kappa: u64,
     pub creep: u64,
     pub shrinkage: u64,
-    pub segments: u64,
     pub ages: u64,
 }
 
@@ -43,15 +51,9 @@ pub enum Checked {
     Refused(Refusal),
 }
 
-// 2^30
-const MOST_KAPPA: u64 = 1_073_741_824;
-
-// 2^56
-const MOST_CREEP_OF_KAPPA: u64 = 72_057_594_037_927_936;
-
 fn creep_of(fields: &[u64; MOST_FIELDS]) -> u64
-    requires { ⌜ HeadFits (now fields) ⌝ }
-    ensures { λ r. ⌜ (r ≡ creepOf (now (fields .entry))) × (r ≤ mostCreep) ⌝ }
+    requires { ⌜ HeadFits (headOf (now fields)) ⌝ }
+    ensures { λ r. ⌜ AtMost mostCreep (creepOf (headOf (now (fields .entry)))) r ⌝ }
 {
     let cure = codes::cure_of(fields[places::CURE]);
     let concrete = codes::concrete_of(fields[places::CONCRETE]);
@@ -67,8 +69,8 @@ fn creep_of(fields: &[u64; MOST_FIELDS]) -> u64
 }
 
 fn shrinkage_of(fields: &[u64; MOST_FIELDS]) -> u64
-    requires { ⌜ HeadFits (now fields) ⌝ }
-    ensures { λ r. ⌜ r ≡ shrinkageOf (now (fields .entry)) ⌝ }
+    requires { ⌜ HeadFits (headOf (now fields)) ⌝ }
+    ensures { λ r. ⌜ r ≡ shrinkageOf (headOf (now (fields .entry))) ⌝ }
 {
     let concrete = codes::concrete_of(fields[places::CONCRETE]);
     let ec = fields[places::EC] as u32;
@@ -76,8 +78,8 @@ fn shrinkage_of(fields: &[u64; MOST_FIELDS]) -> u64
 }
 
 fn hours_of(fields: &[u64; MOST_FIELDS]) -> MemberHours
-    requires { ⌜ HeadFits (now fields) ⌝ }
-    ensures { λ r. ⌜ r ≡ hoursOf (now (fields .entry)) ⌝ }
+    requires { ⌜ HeadFits (headOf (now fields)) ⌝ }
+    ensures { λ r. ⌜ r ≡ hoursOf (headOf (now (fields .entry))) ⌝ }
 {
     MemberHours {
         kind: codes::kind_of(fields[places::KIND]),
@@ -94,9 +96,8 @@ fn member_of(
     kappa: u64,
     creep: u64,
 ) -> Member
-    requires { ⌜ HeadFits (now fields) ⌝ }
-    requires { ⌜ Computed segments (now fields) friction kappa creep ⌝ }
-    ensures { λ r. ⌜ r ≡ memberOf segments ages (now (fields .entry)) ⌝ }
+    requires { ⌜ Computed segments ages friction kappa creep (now fields) ⌝ }
+    ensures { λ r. ⌜ r ≡ memberOf (quantitiesOf segments ages (now (fields .entry))) ⌝ }
 {
     Member {
         hours: hours_of(fields),
@@ -115,17 +116,27 @@ fn member_of(
         kappa,
         creep,
         shrinkage: shrinkage_of(fields),
-        segments,
         ages,
     }
 }
 
-// Rows "section" and "creep".
-fn check_section(fields: &[u64; MOST_FIELDS], segments: u64, ages: u64, friction: u64) -> Checked
-    requires { ⌜ HeadFits (now fields) ⌝ }
-    requires { ⌜ friction ≡ frictionOf segments (now fields) ⌝ }
-    ensures { λ r. ⌜ r ≡ fromSection segments ages (now (fields .entry)) ⌝ }
+// Rows "buffers", "section" and "creep", where those above hold.
+fn check_below_duct(
+    fields: &[u64; MOST_FIELDS],
+    segments: u64,
+    ages: u64,
+    friction: u64,
+    report: usize,
+    scratch: usize,
+) -> Checked
+    requires { ⌜ BelowDuct segments ages friction (now fields) ⌝ }
+    ensures { λ r. ⌜ checked r ≡ checkedBy (buffersToCreep (quantitiesOf segments ages (now (fields .entry))) report scratch)
+        (memberOf (quantitiesOf segments ages (now (fields .entry)))) ⌝ }
 {
+    let failing = checks::buffers::first_failing(ages as usize, report, scratch);
+    if failing != 0 {
+        return Checked::Refused(Refusal::Buffers(failing));
+    }
     let area = fields[places::AREA];
     let inertia = fields[places::INERTIA];
     let kappa = section::kappa_of(
@@ -144,34 +155,40 @@ fn check_section(fields: &[u64; MOST_FIELDS], segments: u64, ages: u64, friction
     Checked::Accepted(member_of(fields, segments, ages, friction, kappa, creep))
 }
 
-// Rows "duct" and "buffers", and those below.
-fn check_path(
-    fields: &[u64; MOST_FIELDS],
-    segments: u64,
-    ages: u64,
-    report: usize,
-    scratch: usize,
-) -> Checked
+// "Refusal by place of checking, top to bottom", from row "codes" to row "duct": X, or the first refusal.
+pub fn check_to_duct(fields: &[u64; MOST_FIELDS], segments: u64, ages: u64) -> NumberOrRefusal
     requires { ⌜ Readable segments ages (now fields) ⌝ }
-    requires { ⌜ HeadFits (now fields) ⌝ }
-    requires { ⌜ PathFits segments (now fields) ⌝ }
-    ensures { λ r. ⌜ r ≡ fromDuct segments ages (now (fields .entry)) report scratch ⌝ }
+    ensures { λ r. ⌜ numberGiven r ≡ checkedBy (codesToDuct (quantitiesOf segments ages (now (fields .entry))))
+        (frictionOf (quantitiesOf segments ages (now (fields .entry)))) ⌝ }
 {
-    let friction = friction::path_friction(fields, segments as usize);
+    let failing = checks::codes::first_failing(fields, segments as usize);
+    if failing != 0 {
+        return NumberOrRefusal::Refused(Refusal::Codes(failing));
+    }
+    let failing = checks::ranges::first_failing(fields, segments as usize, ages as usize);
+    if failing != 0 {
+        return NumberOrRefusal::Refused(Refusal::Ranges(failing));
+    }
+    let failing = checks::hours::first_failing(fields, segments as usize, ages as usize);
+    if failing != 0 {
+        return NumberOrRefusal::Refused(Refusal::Hours(failing));
+    }
+    let friction = friction::path_friction(
+        from_element(fields, HEAD_FIELDS),
+        segments as usize,
+        fields[places::WOBBLE],
+        fields[places::CURVATURE],
+    );
     let pretensioned = fields[places::KIND] == places::PRETENSIONED;
     let failing = checks::duct::first_failing(pretensioned, segments, friction);
     if failing != 0 {
-        return Checked::Refused(Refusal::Duct(failing));
+        return NumberOrRefusal::Refused(Refusal::Duct(failing));
     }
-    let failing = checks::buffers::first_failing(ages as usize, report, scratch);
-    if failing != 0 {
-        return Checked::Refused(Refusal::Buffers(failing));
-    }
-    check_section(fields, segments, ages, friction)
+    NumberOrRefusal::Number(friction)
 }
 
-// "Refusal by place of checking, top to bottom": the accepted member, or the first refusal from row "codes" to row "creep".
-// `report` and `scratch` are the lengths of the lent buffers.
+// From row "codes" to row "creep": the accepted member, or the first refusal. `report` and `scratch` are the lengths of the lent
+// buffers.
 pub fn check_member(
     fields: &[u64; MOST_FIELDS],
     segments: u64,
@@ -180,19 +197,12 @@ pub fn check_member(
     scratch: usize,
 ) -> Checked
     requires { ⌜ Readable segments ages (now fields) ⌝ }
-    ensures { λ r. ⌜ r ≡ checkedOf segments ages (now (fields .entry)) report scratch ⌝ }
+    ensures { λ r. ⌜ checked r ≡ checkedOf (quantitiesOf segments ages (now (fields .entry))) report scratch ⌝ }
 {
-    let failing = checks::codes::first_failing(fields, segments as usize);
-    if failing != 0 {
-        return Checked::Refused(Refusal::Codes(failing));
+    match check_to_duct(fields, segments, ages) {
+        NumberOrRefusal::Number(friction) => {
+            check_below_duct(fields, segments, ages, friction, report, scratch)
+        }
+        NumberOrRefusal::Refused(refusal) => Checked::Refused(refusal),
     }
-    let failing = checks::ranges::first_failing(fields, segments as usize, ages as usize);
-    if failing != 0 {
-        return Checked::Refused(Refusal::Ranges(failing));
-    }
-    let failing = checks::hours::first_failing(fields, segments as usize, ages as usize);
-    if failing != 0 {
-        return Checked::Refused(Refusal::Hours(failing));
-    }
-    check_path(fields, segments, ages, report, scratch)
 }

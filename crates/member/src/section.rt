@@ -1,11 +1,10 @@
 // κ, U and S of a section.
 ghost use mathlib.Core.Path.{_≡_};
-ghost use Prim.Native.Nat.{_≤_};
 ghost use Rattle.member.specs.Constants.{kappa, wholeCreep, wholeShrinkage};
-ghost use Rattle.member.specs.Facts.{SectionFits, mostCreep};
+ghost use Rattle.member.specs.Facts.{SectionFits, mostCreep, AtMost};
 use coefficient::codes::Concrete;
 use coefficient::codes::Cure;
-use steps::KAPPA_UNIT;
+use formulas::KAPPA_UNIT;
 use ticks::TICKS_PER_UNIT;
 
 // 4,096: what is left of κ's unit beside the ticks of e².
@@ -33,7 +32,7 @@ pub fn whole_creep(
     volume_to_surface: u32,
     transfer: u32,
 ) -> u64
-    ensures { λ r. ⌜ (r ≡ wholeCreep cure concrete ec «volume_to_surface» transfer) × (r ≤ mostCreep) ⌝ }
+    ensures { λ r. ⌜ AtMost mostCreep (wholeCreep cure concrete ec «volume_to_surface» transfer) r ⌝ }
 {
     let ucr = coefficient::ucr_of(cure, concrete, ec);
     let scf = coefficient::scf_of(volume_to_surface);

@@ -9,12 +9,11 @@ use lib.Ieee.{Float, nan}
 use lib.ListN.{length, getD, take, drop, set, length-append, length-drop, length-map, length-set, drop-of-length-le}
 use lib.Seq.{take-suc, take-all, length-take-le, drop-cons, drop-drop, set-at}
 use borrow.Rule.Slice.PartMut.{midOf, putMid}
-use Rattle.ticks.specs.Numbers.{numberOf, bytesOf, bytesPerNumber}
-use Rattle.ticks.proofs.Laws.{bytes-length}
-use Rattle.fields.specs.Amounts.{over}
+use Rattle.fields.specs.Outcomes.{over}
 use Rattle.fields.proofs.Buffers.{length-over, tail, written-behind}
-use Rattle.numbers.specs.Numbers.{bytesOfNumbers, written, numbersFrom}
-use Rattle.numbers.specs.Parts.{standsFor}
+use Rattle.numbers.specs.Numbers.{bytesPerNumber, numberOf, bytesOf, bytesOfNumbers, written, numbersFrom}
+use Rattle.numbers.specs.ReadDoubles.{standsFor}
+use Rattle.numbers.proofs.NumberBytes.{bytes-length}
 
 -- ---- writing
 
@@ -45,27 +44,27 @@ stored-none numbers before = record { within = omega arith; same = refl; is = re
 
 module _ (numbers before buffer : List ℕ) (done : ℕ) (room : bytesPerNumber * length numbers ≤ length before)
     (stored : Stored numbers before buffer done) where
+  -- the next number's bytes have room behind those
+  pub stored-room : done < length numbers
+      → let at = bytesPerNumber * done in bytesPerNumber ≤ length (midOf at (length buffer - at) buffer)
+  stored-room h =
+      let at = bytesPerNumber * done in
+      let same = stored .same in
+      rw (tail buffer at) (simp length-drop (omega arith))
+
   pub stored-more : (part : List ℕ) → done < length numbers
       → let at = bytesPerNumber * done in
-      let left = midOf at (length buffer - at) buffer in
-      part ≡ take (length left) (bytesOf bytesPerNumber (getD numbers done 0)) ++ drop bytesPerNumber left
+      part ≡ over (bytesOf bytesPerNumber (getD numbers done 0)) (midOf at (length buffer - at) buffer)
       → Stored numbers before (putMid at (length buffer - at) buffer part) (done + 1)
   stored-more part h e =
       let at = bytesPerNumber * done in
-      let left = midOf at (length buffer - at) buffer in
       let row = bytesOf bytesPerNumber (getD numbers done 0) in
-      let same = stored .same in
       let front = bytesOfNumbers (take done numbers) in
       let front-is : length front ≡ at =
       bytes-of-numbers-length (take done numbers)
       ∙ ap (λ (n : ℕ). bytesPerNumber * n) (length-take-le done numbers (omega arith)) in
-      let row-is : length row ≡ bytesPerNumber = bytes-length bytesPerNumber (getD numbers done 0) in
-      let left-is : length left ≡ length buffer - at = ap length (tail buffer at) ∙ length-drop at buffer in
-      let part-is : part ≡ over row left =
-      e ∙ ap (λ (l : List ℕ). l ++ drop bytesPerNumber left) (take-all (length left) row (omega arith))
-      ∙ ap (λ (n : ℕ). row ++ drop n left) (sym row-is) in
       let is : putMid at (length buffer - at) buffer part ≡ written (take (done + 1) numbers) before =
-      written-behind front row before buffer part at (sym front-is) (stored .is) part-is
+      written-behind front row before buffer part at (sym front-is) (stored .is) e
       ∙ ap (λ (l : List ℕ). over l before) (sym (bytes-behind (take done numbers) (getD numbers done 0)))
       ∙ ap (λ (l : List ℕ). written l before) (sym (rw (add-one, take-suc numbers done 0))) in
       let more : length (bytesOfNumbers (take (done + 1) numbers)) ≡ bytesPerNumber * (done + 1) =
@@ -110,6 +109,14 @@ unfolding numbersFrom
 decoded-none list before = record { within = omega arith; same = refl; is = refl }
 
 module _ (list : List ℕ) (before doubles : List Float) (read : ℕ) (decoded : Decoded list before doubles read) where
+  -- the next number's bytes are there
+  pub decoded-room : read < length doubles → bytesPerNumber * length before ≤ length list
+      → let at = bytesPerNumber * read in bytesPerNumber ≤ length (take (length list - at) (drop at list))
+  decoded-room h room =
+      let at = bytesPerNumber * read in
+      let same = decoded .same in
+      rw (tail list at) (simp length-drop (omega arith))
+
   pub decoded-more : (number : ℕ) (double : Float) → read < length doubles
       → let at = bytesPerNumber * read in
       number ≡ numberOf (take bytesPerNumber (take (length list - at) (drop at list))) → double ≡ standsFor number

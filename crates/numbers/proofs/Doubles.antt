@@ -6,7 +6,7 @@ use lib.Dec.{T}
 use lib.Ieee.{inf, binary64, nanBits, ofBits}
 use lib.Ieee.Bits.{nanBits-above}
 use borrow.Author.Tests.{lt-ltb, le-ltb}
-use Rattle.numbers.specs.Parts.{standsFor}
+use Rattle.numbers.specs.ReadDoubles.{standsFor}
 
 -- 2047 times 2 ^ 52: the bits of infinity
 abbrev infinity : ℕ

@@ -1,3 +1,4 @@
 pub mod ListBytes
+mod NumberBytes
 mod Bytes
 mod Doubles

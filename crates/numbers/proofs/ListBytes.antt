@@ -16,20 +16,20 @@ use lib.ListN.{length, getD, take, drop, length-map}
 use lib.Seq.{getD-take, take-all, take-at, length-take-le}
 use Rattle.ticks.specs.declared.Amount.{Amount}
 use Rattle.ticks.specs.declared.Amount.the-variants.{Of, Refused}
-use Rattle.ticks.specs.Numbers.{bytesPerNumber}
 use Rattle.ticks.proofs.Laws.{refused}
 use Rattle.fields.specs.declared.refusal.Reading.{Reading}
 use Rattle.fields.specs.declared.refusal.Reading.the-variants.{Fields, Not}
 use Rattle.fields.specs.declared.refusal.Refusal.the-variants.{Shape, Ranges}
-use Rattle.fields.specs.Layout.{segmentsField, agesField, mostSegments, agesOutOfRange}
-use Rattle.fields.specs.Layout.{headFields, mostFields, fieldsIn}
-use Rattle.fields.specs.Amounts.{refused as notRead}
+use Rattle.fields.specs.Quantities.{segmentsField, agesField, headFields, fieldsIn}
+use Rattle.fields.specs.Limits.{mostSegments, agesOutOfRange}
+use Rattle.fields.specs.Sizes.{mostFields}
+use Rattle.fields.specs.Outcomes.{refused as notRead}
 use Rattle.fields.proofs.Accepted.{Accepted}
 use Rattle.fields.proofs.Laws.{ages-in-range}
 use Rattle.list.proofs.Laws.{list-accepted}
 use Rattle.list.specs.Lists.{amountIn, inTicks, amountsOf, withCount, countIn, countsIn, withCounts, listOutcome, amountsBy}
-use Rattle.numbers.specs.Numbers.{room, numbersFrom, doublesOf, bytesOutcome}
-use Rattle.numbers.specs.Parts.{standsFor, mostDoubles}
+use Rattle.numbers.specs.Numbers.{bytesPerNumber, room, numbersFrom, doublesOf, bytesOutcome}
+use Rattle.numbers.specs.ReadDoubles.{standsFor, mostDoubles}
 
 -- ---- infinity for a NaN
 

@@ -1,15 +1,33 @@
--- Numbers in a host's bytes: document 01, "There a number of a list, report, scratch or reply is eight bytes, lowest first,
--- a double by its bits." Assumes nothing.
-use Prim.Native.Nat.{ℕ, zero, suc, _/_, _%_}
+-- The promise rests on it. Numbers in a host's bytes: document 01, "The card", from "There a number of a list" on.
+use Prim.Native.Nat.{ℕ, zero, suc, _+_, _*_, _/_, _%_}
 use mathlib.Core.Bool.{cond}
 use mathlib.Core.List.{List, [], _∷_, _++_, map}
 use lib.Dec.{eqb}
 use lib.Ieee.{Float, binary64, ofBits}
 use lib.ListN.{length, take, drop}
-use Rattle.ticks.specs.Numbers.{numberOf, bytesOf, bytesPerNumber}
-use Rattle.fields.specs.declared.refusal.Refusal.the-variants.{Shape}
-use Rattle.fields.specs.Amounts.{Outcome, over, refused}
+use Rattle.fields.specs.declared.refusal.Refusal.{Refusal}
+use Rattle.fields.specs.Outcomes.{Outcome, over, refused}
 use Rattle.list.specs.Lists.{listOutcome}
+
+-- ---- a number: "eight bytes, lowest first"
+
+abbrev pub bytesPerNumber : ℕ
+bytesPerNumber = 8
+
+abbrev pub byteValues : ℕ
+byteValues = 256
+
+-- the number that some bytes make
+unfoldable pub numberOf : List ℕ → ℕ
+numberOf [] = 0
+numberOf (byte ∷ bytes) = byte + byteValues * numberOf bytes
+
+-- the `count` lowest bytes of a number
+unfoldable pub bytesOf : ℕ → ℕ → List ℕ
+bytesOf zero number = []
+bytesOf (suc count) number = number % byteValues ∷ bytesOf count (number / byteValues)
+
+-- ---- the numbers of a buffer, a list or a reply
 
 -- how many numbers some bytes hold: "odd bytes at a buffer's end" hold none
 abbrev pub room : ℕ → ℕ
@@ -29,15 +47,11 @@ unfoldable pub numbersFrom : ℕ → List ℕ → List ℕ
 numbersFrom zero bytes = []
 numbersFrom (suc count) bytes = numberOf (take bytesPerNumber bytes) ∷ numbersFrom count (drop bytesPerNumber bytes)
 
--- the numbers that some bytes hold
-abbrev pub numbersOf : List ℕ → List ℕ
-numbersOf bytes = numbersFrom (room (length bytes)) bytes
-
 -- "a double by its bits"
 abbrev pub doublesOf : List ℕ → List Float
-doublesOf bytes = map (ofBits binary64) (numbersOf bytes)
+doublesOf bytes = map (ofBits binary64) (numbersFrom (room (length bytes)) bytes)
 
 -- What a list's bytes give. "A list whose byte length is no multiple of 8 gives 8, place 0"
 unfoldable pub bytesOutcome : List ℕ → Outcome
 bytesOutcome bytes =
-    cond (eqb (length bytes % bytesPerNumber) 0) (listOutcome (doublesOf bytes)) (refused (Shape 0) [])
+    cond (eqb (length bytes % bytesPerNumber) 0) (listOutcome (doublesOf bytes)) (refused (Refusal.Shape 0) [])

@@ -1,24 +1,62 @@
 // Numbers in a host's bytes.
 ghost use mathlib.Core.Path.{_≡_};
 ghost use mathlib.Core.List.{map};
-ghost use Prim.Native.Nat.{min};
-ghost use lib.ListN.{length};
-ghost use Rattle.fields.specs.Amounts.{over};
+ghost use Prim.Native.Nat.{min, _≤_};
+ghost use lib.ListN.{length, take};
+ghost use Rattle.fields.specs.Outcomes.{over};
 ghost use Rattle.list.specs.Lists.{listOutcome};
-ghost use Rattle.numbers.specs.Numbers.{room, written, numbersFrom, doublesOf, bytesOutcome};
-ghost use Rattle.numbers.specs.Parts.{standsFor, mostDoubles};
+ghost use Rattle.numbers.specs.Numbers.{bytesPerNumber, numberOf, bytesOf, room, written, numbersFrom, doublesOf};
+ghost use Rattle.numbers.specs.Numbers.{bytesOutcome};
+ghost use Rattle.numbers.specs.ReadDoubles.{standsFor, mostDoubles};
 ghost use Rattle.numbers.specs.Conditions.{NumbersFit};
-use fields::layout::MOST_FIELDS;
+use fields::limits::MOST_FIELDS;
 use fields::refusal::Reading;
 use fields::refusal::Refusal;
-use ticks::BYTES_PER_NUMBER;
 use ticks::MINUS_ZERO;
+
+const BYTES_PER_NUMBER: usize = 8;
+
+const BYTE_VALUES: u64 = 256;
 
 // One more than the most fields.
 const MOST_DOUBLES: usize = MOST_FIELDS + 1;
 
 // The bits of infinity; a NaN's are above them, but for the sign.
 const INFINITY: u64 = 0x7FF0_0000_0000_0000;
+
+fn wide(byte: u8) -> u64
+    ensures { λ r. ⌜ r ≡ byte ⌝ }
+{
+    byte as u64
+}
+
+// The number that the first eight bytes of a part make, lowest first.
+fn read_number(part: &[u8]) -> u64
+    requires { ⌜ bytesPerNumber ≤ length (now part) ⌝ }
+    ensures { λ r. ⌜ r ≡ numberOf (take bytesPerNumber (now (part .entry))) ⌝ }
+{
+    let mut left = BYTES_PER_NUMBER;
+    let mut number = 0u64;
+    while 0 < left {
+        left -= 1;
+        number = number * BYTE_VALUES + wide(part[left]);
+    }
+    number
+}
+
+// A number's eight bytes at the front of a part, lowest first.
+fn write_number(part: &mut [u8], number: u64)
+    requires { ⌜ bytesPerNumber ≤ length (now part) ⌝ }
+    ensures { λ _. ⌜ now (part .exit) ≡ over (bytesOf bytesPerNumber number) (now (part .entry)) ⌝ }
+{
+    let mut rest = number;
+    let mut at = 0usize;
+    while at < BYTES_PER_NUMBER {
+        part[at] = (rest % BYTE_VALUES) as u8;
+        rest = rest / BYTE_VALUES;
+        at += 1;
+    }
+}
 
 // How many numbers so many bytes hold, up to the most that are asked for.
 pub fn room_up_to(most: usize, bytes: usize) -> usize
@@ -39,7 +77,7 @@ pub fn write_numbers(numbers: &[u64], buffer: &mut [u8])
     let mut done = 0usize;
     while done < numbers.len() {
         let at = BYTES_PER_NUMBER * done;
-        ticks::write_number(&mut buffer[at..], numbers[done]);
+        write_number(&mut buffer[at..], numbers[done]);
         done += 1;
     }
 }
@@ -63,7 +101,7 @@ fn read_doubles(list: &[u8], doubles: &mut [f64])
     let mut read = 0usize;
     while read < doubles.len() {
         let at = BYTES_PER_NUMBER * read;
-        doubles[read] = double_of(ticks::read_number(&list[at..]));
+        doubles[read] = double_of(read_number(&list[at..]));
         read += 1;
     }
 }
@@ -80,8 +118,8 @@ fn read_by(list: &[u8], doubles: &mut [f64], fields: &mut [u64; MOST_FIELDS]) ->
     list::read_list(&doubles[..count], fields)
 }
 
-// Reads a list: its numbers go to the front of `fields`, all of them or those before the first field that is refused.
-pub fn read_list(list: &[u8], fields: &mut [u64; MOST_FIELDS]) -> Reading
+// Reads a list from its bytes: its numbers go to the front of `fields`, all of them or those before the first field that is refused.
+pub fn read_list_bytes(list: &[u8], fields: &mut [u64; MOST_FIELDS]) -> Reading
     ensures { λ r. ⌜ r ≡ bytesOutcome (now (list .entry)) .reading ⌝ }
     ensures { λ r. ⌜ now (fields .exit) ≡ over (bytesOutcome (now (list .entry)) .numbers) (now (fields .entry)) ⌝ }
 {

@@ -7,11 +7,11 @@ use lib.Dec.{leb→le}
 use Rattle.ticks.specs.Doubles.{ticksOf, magnitude, one}
 use Rattle.logarithm.specs.Logarithm.{logarithm}
 use Rattle.coefficient.specs.Coefficients.{scf, ssf, mcf, ucr, ush, creepShare, shrinkageShare}
-use Rattle.fields.specs.Amounts.{numbersIn}
-use Rattle.line.specs.Line.{digitsOf, spacesIn}
+use Rattle.fields.specs.Outcomes.{numbersIn}
+use Rattle.line.specs.Lines.{digitsOf, spacesIn}
 use Rattle.card.specs.Card.{cardOutcome}
 use Rattle.fields.specs.Quantities.{segmentsFrom, agesFrom}
-use Rattle.member.specs.Friction.{pathFriction}
+use Rattle.member.specs.Constants.{pathFriction}
 use Rattle.checks.specs.Rows.{firstFailing, segmentCodes, rangesOfSegments, rangesOfMoments, hoursOfAges}
 use Rattle.member.specs.Member.{checkedOf}
 use Rattle.stages.specs.Run.{memberResult}

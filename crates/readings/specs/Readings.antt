@@ -1,24 +1,24 @@
--- The readings that document 01 marks ★, and its edges, in the order of its "Sample beam": one list of what the definitions of the
--- other crates give, to be held beside the paper. Assumes nothing.
+-- The theorem `marked` rests on it. The readings that document 01 marks ★, and its edges, in the order of its "Sample beam": one list of
+-- what the definitions of the other crates give, to be held beside the paper.
 use Prim.Native.Nat.{ℕ, zero, suc, _+_, _*_, _^_, _≤_}
 use mathlib.Core.List.{List, [], _∷_, _++_}
 use mathlib.Core.Path.{_≡_}
-use Rattle.ticks.specs.declared.Amount.the-variants.{Of}
+use Rattle.ticks.specs.declared.Amount.{Amount}
 use Rattle.ticks.specs.Doubles.{ticksOf, magnitude, one}
 use Rattle.logarithm.specs.Logarithm.{logarithm}
-use Rattle.coefficient.specs.declared.codes.Cure.the-variants.{Moist}
+use Rattle.coefficient.specs.declared.codes.Cure.{Cure}
 use Rattle.coefficient.specs.declared.clocks.HoursSinceTransfer.{HoursSinceTransfer}
 use Rattle.coefficient.specs.Coefficients.{scf, mcf, creepShare}
-use Rattle.fields.specs.Amounts.{accepted}
+use Rattle.fields.specs.Outcomes.{accepted, OrRefusal, Gives, Refuses}
 use Rattle.card.specs.Card.{cardOutcome}
+use Rattle.fields.specs.Quantities.{Quantities, Segment, Age, parabola, quantitiesRead}
 use Rattle.fields.specs.Refusals.{number, place}
-use Rattle.fields.specs.Quantities.{Segment, Age, agesOf}
-use Rattle.member.specs.Friction.{pathFriction, parabola}
+use Rattle.member.specs.Constants.{pathFriction}
 use Rattle.member.specs.Member.{frictionOf}
-use Rattle.stages.specs.declared.BeforeAges.{BeforeAges}
-use Rattle.stages.specs.Run.{Result, reported, refused}
-use Rattle.losses.specs.Answers.{numbersBefore}
-use Rattle.losses.specs.Promise.{resultOf}
+use Rattle.stages.specs.declared.before.BeforeAges.{BeforeAges}
+use Rattle.stages.specs.declared.intervals.Row.{Row}
+use Rattle.stages.specs.Run.{Report, resultRead}
+use Rattle.entries.specs.Answers.{numbersBefore, numbersOfRow}
 use Rattle.text.specs.Columns.{allInColumns, lineOf}
 use Rattle.text.specs.Text.{reportText}
 
@@ -81,17 +81,26 @@ withAges count = linesOf (line1 ∷ line2 3072 ∷ line3 ∷ line4 0 0 0 count �
 -- ---- what a card gives
 
 -- with room for so many numbers in report and scratch
-abbrev pub resultOfCard : List ℕ → ℕ → Result
-resultOfCard card room = resultOf (cardOutcome card) room room
+abbrev pub resultOfCard : List ℕ → ℕ → OrRefusal Report
+resultOfCard card room = resultRead (cardOutcome card) room room
 
 -- a refusal's number and place, both "0 if accepted"
-abbrev pub numberAndPlace : Result → List ℕ
-numberAndPlace (reported before rows last) = 0 ∷ 0 ∷ []
-numberAndPlace (refused refusal) = number refusal ∷ place refusal ∷ []
+abbrev pub numberAndPlace : OrRefusal Report → List ℕ
+numberAndPlace (Gives report) = 0 ∷ 0 ∷ []
+numberAndPlace (Refuses refusal) = number refusal ∷ place refusal ∷ []
 
--- X that a card's duct has, with so many segments
-abbrev pub frictionOfCard : List ℕ → ℕ → ℕ
-frictionOfCard card segments = frictionOf segments (cardOutcome card .numbers)
+-- X that a card's duct has, and 0 of a card that is not read
+abbrev pub frictionRead : OrRefusal Quantities → ℕ
+frictionRead (Gives q) = frictionOf q
+frictionRead (Refuses refusal) = 0
+
+abbrev pub frictionOfCard : List ℕ → ℕ
+frictionOfCard card = frictionRead (quantitiesRead (cardOutcome card))
+
+-- the ages of a card
+abbrev pub agesRead : OrRefusal Quantities → List Age
+agesRead (Gives q) = q .ages
+agesRead (Refuses refusal) = []
 
 abbrev pub age : ℕ → ℕ → Age
 age hour moment = record { hour = hour; moment = moment }
@@ -101,14 +110,14 @@ abbrev pub sampleBefore : BeforeAges
 sampleBefore =
     record { friction = 0; slip = 0; deflector = 0; «early_relaxation» = 0; shortening = 7228235; stress = 115651765 }
 
-abbrev pub row1 : List ℕ
-row1 = 3026370 ∷ 5548031 ∷ 1651198 ∷ 105426166 ∷ []
+abbrev pub row1 : Row
+row1 = record { creep = 3026370; shrinkage = 5548031; relaxation = 1651198; stress = 105426166 }
 
-abbrev pub row2 : List ℕ
-row2 = 3074075 ∷ 5812223 ∷ 572430 ∷ 95967438 ∷ []
+abbrev pub row2 : Row
+row2 = record { creep = 3074075; shrinkage = 5812223; relaxation = 572430; stress = 95967438 }
 
-abbrev pub row3 : List ℕ
-row3 = 1865515 ∷ 1849344 ∷ 815347 ∷ 91437232 ∷ []
+abbrev pub row3 : Row
+row3 = record { creep = 1865515; shrinkage = 1849344; relaxation = 815347; stress = 91437232 }
 
 -- ---- the other readings
 
@@ -132,10 +141,11 @@ parabolaOf length rise = record { kind = parabola; length = length; rise = rise 
 pub record Marked : Type 0 where
   -- "this sample": the fields of its text, its ages (the first, the second, the third), what it gives, and what is printed for it
   pub sample-fields : cardOutcome sample ≡ accepted 0 3 (fieldsOf sampleLines)
-  pub sample-ages : agesOf 0 3 (cardOutcome sample .numbers) ≡ age 744 0 ∷ age 8784 0 ∷ age 438000 0 ∷ []
-  pub sample-result : resultOfCard sample 12 ≡ reported sampleBefore (row1 ++ (row2 ++ row3)) 91437232
+  pub sample-ages : agesRead (quantitiesRead (cardOutcome sample)) ≡ age 744 0 ∷ age 8784 0 ∷ age 438000 0 ∷ []
+  pub sample-result : resultOfCard sample 12 ≡ Gives (record { before = sampleBefore; rows = row1 ∷ row2 ∷ row3 ∷ []; last = 91437232 })
   pub sample-printed : reportText sample
-      ≡ linesOf (numbersBefore sampleBefore ∷ (1 ∷ 744 ∷ row1) ∷ (2 ∷ 8784 ∷ row2) ∷ (3 ∷ 438000 ∷ row3) ∷ [])
+      ≡ linesOf (numbersBefore sampleBefore ∷ (1 ∷ 744 ∷ numbersOfRow row1) ∷ (2 ∷ 8784 ∷ numbersOfRow row2)
+      ∷ (3 ∷ 438000 ∷ numbersOfRow row3) ∷ [])
   -- "L(1)=0, L(2)=77, L(9)=244, L(10)=256, L(18)=321, L(720)=731"
   pub L1 : logarithm 1 ≡ 0
   pub L2 : logarithm 2 ≡ 77
@@ -147,11 +157,11 @@ pub record Marked : Type 0 where
   pub scf-2560 : scf 2560 ≡ 93696
   pub scf-thousandths : scf 2560 * 1000 ≡ 915 * 102400
   -- "MCF at 96 h 79,560"
-  pub mcf-96 : mcf Moist 96 ≡ 79560
+  pub mcf-96 : mcf Cure.Moist 96 ≡ 79560
   -- "creep share at 36 h 1,929,379", whatever the clock reads at the end of the service life
   pub creep-36 : (life : HoursSinceTransfer) → creepShare life (creepClock 36) ≡ 1929379
   -- "double 0.153 gives 156"; no double is nearer to 0.153
-  pub double-156 : ticksOf double0153 ≡ Of 156
+  pub double-156 : ticksOf double0153 ≡ Amount.Of 156
   pub double-above : 153 * one ≤ 1000 * (magnitude double0153 + halfApart)
   pub double-below : 1000 * magnitude double0153 ≤ 153 * one + 1000 * halfApart
   -- "parabola 65,536 by 2,560, wobble 200, curvature 150,000: X 411,356"
@@ -160,9 +170,9 @@ pub record Marked : Type 0 where
   pub surface-1024 : numberAndPlace (resultOfCard (withVolumeToSurface 1024) 12) ≡ 0 ∷ 0 ∷ []
   pub surface-1023 : numberAndPlace (resultOfCard (withVolumeToSurface 1023) 12) ≡ 2 ∷ 13 ∷ []
   -- "X 5,033,164 passes, 5,033,165 gives 4", at place 2
-  pub X-5033164 : frictionOfCard (withDuct 61) 2 ≡ 5033164
+  pub X-5033164 : frictionOfCard (withDuct 61) ≡ 5033164
   pub X-5033164-passes : numberAndPlace (resultOfCard (withDuct 61) 12) ≡ 0 ∷ 0 ∷ []
-  pub X-5033165 : frictionOfCard (withDuct 62) 2 ≡ 5033165
+  pub X-5033165 : frictionOfCard (withDuct 62) ≡ 5033165
   pub X-5033165-refused : numberAndPlace (resultOfCard (withDuct 62) 12) ≡ 4 ∷ 2 ∷ []
   -- "64 ages pass, 65 give 2", at field 24
   pub ages-64 : numberAndPlace (resultOfCard (withAges 64) 256) ≡ 0 ∷ 0 ∷ []

@@ -5,7 +5,7 @@ use Rattle.logarithm.proofs.Largest.{no-more}
 use Rattle.coefficient.proofs.Laws.{creep-most, shrinkage-most}
 use Rattle.member.specs.declared.Member.{Member}
 use Rattle.stages.specs.Conditions.{EndBounded}
-use Rattle.stages.specs.Intervals.{endAt}
+use Rattle.stages.specs.Run.{endAt}
 
 pub logarithm-most : (hour : ℕ) → logarithm hour ≤ lastThreshold
 unfolding logarithm

@@ -1,27 +1,36 @@
--- What a loss leaves of a stress: which case it is, and that it is never more than the stress. Assumes nothing.
+-- What a loss leaves of a stress: which case it is, that it is never more than the stress, and that a refusal is one of the stress.
+-- Assumes nothing.
 use mathlib.Core.Path.{_≡_}
 use mathlib.Core.Bool.{Bool, true, false, cond}
 use Prim.Native.Nat.{ℕ, _+_, _-_, _≤_, _<_}
 use native.Mathlib.Omega.{arith}
 use lib.Dec.{leb}
 use borrow.Author.Tests.{le-leb, lt-leb}
-use Rattle.steps.specs.Conditions.{stressLimit}
-use Rattle.stages.specs.declared.Stress.the-variants.{Left, Gone}
-use Rattle.stages.specs.Stresses.{leastStress, after}
+use Rattle.fields.specs.declared.refusal.Refusal.{Refusal}
+use Rattle.fields.specs.declared.refusal.Refusal.the-variants.{Stress}
+use Rattle.fields.specs.Outcomes.{Gives, Refuses}
+use Rattle.fields.specs.Limits.{leastStress}
+use Rattle.formulas.specs.Conditions.{stressLimit}
+use Rattle.stages.specs.Run.{after}
 
-module _ (stress loss : ℕ) where
-  pub leaves : loss + leastStress ≤ stress → Left (stress - loss) ≡ after stress loss
+module _ (place stress loss : ℕ) where
+  pub leaves : loss + leastStress ≤ stress → Gives (stress - loss) ≡ after place stress loss
   leaves h = rw (le-leb (loss + leastStress) stress h)
 
-  pub goes : stress < loss + leastStress → Gone ≡ after stress loss
+  pub goes : stress < loss + leastStress → Refuses (Stress place) ≡ after place stress loss
   goes h = rw (lt-leb (loss + leastStress) stress h)
 
-most : (enough : Bool) (stress loss left : ℕ) → cond enough (Left (stress - loss)) Gone ≡ Left left → left ≤ stress
-most true stress loss left e = let same : stress - loss ≡ left = cc in omega arith
-most false stress loss left e = let never : _≡_ {A = ℕ} 0 1 = cc in absurd (omega arith)
+  most : (enough : Bool) (left : ℕ) → cond enough (Gives (stress - loss)) (Refuses (Stress place)) ≡ Gives left → left ≤ stress
+  most true left e = let same : stress - loss ≡ left = cc in omega arith
+  most false left e = let never : _≡_ {A = ℕ} 0 1 = cc in absurd (omega arith)
 
-pub never-more : (stress loss left : ℕ) → after stress loss ≡ Left left → left ≤ stress
-never-more stress loss left e = most (leb (loss + leastStress) stress) stress loss left e
+  pub left-fits : (left : ℕ) → stress < stressLimit → after place stress loss ≡ Gives left → left < stressLimit
+  left-fits left fits e = omega (arith, most (leb (loss + leastStress) stress) left e)
 
-pub left-fits : (stress loss left : ℕ) → stress < stressLimit → after stress loss ≡ Left left → left < stressLimit
-left-fits stress loss left fits e = let most = never-more stress loss left e in omega arith
+  gone : (enough : Bool) {refusal : Refusal} → cond enough (Gives (stress - loss)) (Refuses (Stress place)) ≡ Refuses refusal
+      → Stress place ≡ refusal
+  gone true e = let never : _≡_ {A = ℕ} 0 1 = cc in absurd (omega arith)
+  gone false e = cc
+
+  pub refuses-stress : {refusal : Refusal} → after place stress loss ≡ Refuses refusal → Stress place ≡ refusal
+  refuses-stress e = gone (leb (loss + leastStress) stress) e

@@ -1,4 +1,4 @@
 pub mod Beginning
 pub mod Leaving
 pub mod Clocks
-mod Passing
+pub mod Passing

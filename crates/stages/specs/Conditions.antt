@@ -1,21 +1,19 @@
--- What the code's arithmetic asks of a member, of its ages and of the ends of its intervals, so that no product wraps. It serves the
--- code alone, and every accepted member has it. Assumes nothing.
-use Prim.Native.Nat.{ℕ, _+_, _≤_, _<_}
+-- It serves the code alone, and every accepted member has it. What the code's arithmetic asks of a member and of the ends of its
+-- intervals, so that no product wraps.
+use Prim.Native.Nat.{ℕ, _≤_, _<_}
 use mathlib.Core.Path.{_≡_}
-use mathlib.Core.List.{List, [], _∷_}
-use Rattle.tables.specs.Tables.{T}
-use Rattle.logarithm.specs.Logarithm.{serviceLife, lastThreshold, IsTable}
+use mathlib.Core.List.{List}
+use Rattle.ticks.specs.Ticks.{T}
+use Rattle.logarithm.specs.Logarithm.{serviceLife, lastThreshold}
+use Rattle.logarithm.specs.Table.{IsTable}
 use Rattle.member.specs.declared.Member.{Member}
-use Rattle.fields.specs.Quantities.{Age}
-use Rattle.checks.specs.Rows.{mostMoment, mostKappa}
-use Rattle.fields.specs.Layout.{mostSegments, mostAges}
-use Rattle.steps.specs.Conditions.{stressLimit, frictionLimit, slipLimit, lengthLimit, deflectorLimit, leastStrength, strengthLimit}
-use Rattle.steps.specs.Conditions.{esLimit, eciLimit, eccentricityLimit, creepLimit, shrinkageLimit}
+use Rattle.fields.specs.Limits.{mostMoment, mostKappa, mostAges}
+use Rattle.formulas.specs.Conditions.{stressLimit, frictionLimit, slipLimit, lengthLimit, deflectorLimit, leastStrength, strengthLimit}
+use Rattle.formulas.specs.Conditions.{esLimit, eciLimit, eccentricityLimit, creepLimit, shrinkageLimit}
 use Rattle.stages.specs.declared.ends.End.{End}
-use Rattle.stages.specs.BeforeAges.{jacked}
-use Rattle.stages.specs.Intervals.{transferEnd}
+use Rattle.stages.specs.Run.{jacked, transferEnd}
 
--- ---- a member, and its ages
+-- ---- a member
 
 pub record Bounded (m : Member) : Type 0 where
   pub transfer : m .hours .transfer ≤ serviceLife
@@ -36,14 +34,7 @@ pub record Bounded (m : Member) : Type 0 where
   pub kappa-fits : m .kappa ≤ mostKappa
   pub creep-fits : m .creep < creepLimit
   pub shrinkage-fits : m .shrinkage < shrinkageLimit
-  pub segments-fit : m .segments ≤ mostSegments
   pub ages-fit : m .ages ≤ mostAges
-
--- ages after moments that are so much: each hour within the service life, and the moments within their limit as they add up
-abbrev pub AgesBounded : ℕ → List Age → Type 0
-AgesBounded moments [] = Unit
-AgesBounded moments (age ∷ ages) =
-    (age .hour ≤ serviceLife) × ((moments + age .moment ≤ mostMoment) × AgesBounded (moments + age .moment) ages)
 
 -- ---- the ends of the intervals
 

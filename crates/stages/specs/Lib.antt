@@ -1,7 +1,3 @@
-pub mod Stresses
-pub mod BeforeAges
-pub mod Parts
-pub mod Ages
-pub mod Intervals
-pub mod Conditions
 pub mod Run
+pub mod Given
+pub mod Conditions

@@ -1,7 +1,7 @@
 // The ends of the intervals, read once each: one interval's end is the next one's start.
 ghost use mathlib.Core.Path.{_≡_};
 ghost use Rattle.stages.specs.Conditions.{EndFits};
-ghost use Rattle.stages.specs.Intervals.{endAt};
+ghost use Rattle.stages.specs.Run.{endAt};
 use coefficient::clocks::SERVICE_LIFE;
 use logarithm::ENTRIES;
 use member::Member;
@@ -23,7 +23,7 @@ pub fn end_at(m: Member, thresholds: &[u32; ENTRIES], moments: u64, hour: u32) -
     let hours = m.hours;
     End {
         moments,
-        g: steps::moment_stress(moments, m.eccentricity, m.inertia),
+        g: formulas::moment_stress(moments, m.eccentricity, m.inertia),
         creep: coefficient::creep_share(
             hours.since_transfer(SERVICE_LIFE),
             hours.since_transfer(hour),

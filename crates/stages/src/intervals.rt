@@ -1,10 +1,12 @@
-// The losses of an interval, from its two ends.
+// The losses of an interval, from its two ends, and the row of the age at which it ends.
 ghost use mathlib.Core.Path.{_≡_};
+ghost use Rattle.stages.specs.Run.{lossesBetween, rowBetween};
 ghost use Rattle.stages.specs.Conditions.{PassFits};
-ghost use Rattle.stages.specs.Intervals.{lossesBetween, passed};
-use crate::Stress;
-use crate::before;
+ghost use Rattle.stages.specs.Given.{rowGiven};
 use crate::ends::End;
+use crate::stress;
+use fields::refusal::NumberOrRefusal;
+use fields::refusal::Refusal;
 use member::Member;
 
 pub struct Losses {
@@ -13,10 +15,17 @@ pub struct Losses {
     pub relaxation: u64,
 }
 
-// The losses of an interval and the stress that they leave; or none is left.
+// The losses of an age and the stress after them.
+pub struct Row {
+    pub creep: u64,
+    pub shrinkage: u64,
+    pub relaxation: u64,
+    pub stress: u64,
+}
+
 pub enum Passed {
-    By(Losses, u64),
-    Gone,
+    By(Row),
+    Refused(Refusal),
 }
 
 // The losses of an interval, from the stress at its start and from its two ends.
@@ -25,13 +34,13 @@ fn losses_between(m: Member, stress: u64, start: End, end: End) -> Losses
     ensures { λ r. ⌜ r ≡ lossesBetween m stress start end ⌝ }
 {
     let steel = m.steel;
-    let c = steps::concrete_stress(stress, m.kappa, start.g);
-    let creep_share = steps::difference(end.creep, start.creep);
-    let shrinkage_share = steps::difference(end.shrinkage, start.shrinkage);
-    let logarithms = steps::difference(end.logarithm, start.logarithm);
-    let creep = steps::creep_loss(m.creep, creep_share, c);
-    let shrinkage = steps::shrinkage_loss(m.shrinkage, shrinkage_share);
-    let relaxation = steps::relaxation_loss(steel, m.ultimate_strength, stress, logarithms);
+    let c = formulas::concrete_stress(stress, m.kappa, start.g);
+    let creep_share = formulas::difference(end.creep, start.creep);
+    let shrinkage_share = formulas::difference(end.shrinkage, start.shrinkage);
+    let logarithms = formulas::difference(end.logarithm, start.logarithm);
+    let creep = formulas::creep_loss(m.creep, creep_share, c);
+    let shrinkage = formulas::shrinkage_loss(m.shrinkage, shrinkage_share);
+    let relaxation = formulas::relaxation_loss(steel, m.ultimate_strength, stress, logarithms);
     Losses {
         creep,
         shrinkage,
@@ -39,15 +48,20 @@ fn losses_between(m: Member, stress: u64, start: End, end: End) -> Losses
     }
 }
 
-// All three losses leave the stress together.
-pub fn pass(m: Member, stress: u64, start: End, end: End) -> Passed
+// All three losses leave the stress together. The interval ends at the age of this number.
+pub fn pass(m: Member, number: u64, stress: u64, start: End, end: End) -> Passed
     requires { ⌜ PassFits m stress end ⌝ }
-    ensures { λ r. ⌜ r ≡ passed m stress start end ⌝ }
+    ensures { λ r. ⌜ rowGiven r ≡ rowBetween m number stress start end ⌝ }
 {
     let losses = losses_between(m, stress, start, end);
     let together = losses.creep + losses.shrinkage + losses.relaxation;
-    let Stress::Left(left) = before::after(stress, together) else {
-        return Passed::Gone;
-    };
-    Passed::By(losses, left)
+    match stress::after(number, stress, together) {
+        NumberOrRefusal::Number(left) => Passed::By(Row {
+            creep: losses.creep,
+            shrinkage: losses.shrinkage,
+            relaxation: losses.relaxation,
+            stress: left,
+        }),
+        NumberOrRefusal::Refused(refusal) => Passed::Refused(refusal),
+    }
 }

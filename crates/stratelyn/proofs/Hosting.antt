@@ -8,28 +8,28 @@ use native.Mathlib.Omega.{arith}
 use lib.Dec.{T}
 use lib.Ieee.{isNan, binary64, toBits, ofBits}
 use lib.ListN.{take}
-use Rattle.ticks.specs.Numbers.{bytesPerNumber}
 use Rattle.fields.specs.declared.refusal.Refusal.{Refusal}
 use Rattle.fields.specs.Refusals.{number}
-use Rattle.checks.specs.Rows.{perRow}
-use Rattle.losses.specs.declared.Reply.{Reply}
-use Rattle.losses.specs.declared.Answer.the-variants.{Accepted, Refused}
-use Rattle.stages.specs.Run.{Result, reported, refused}
-use Rattle.losses.specs.Answers.{acceptanceNumber, acceptanceValues, refusalValues, Answered}
-use Rattle.losses.proofs.Deciding.{refusal-number}
-use Rattle.losses.proofs.Doubles.{same-bits, finite}
-use Rattle.numbers.specs.Numbers.{room, bytesOfNumbers, written}
-use Rattle.stratelyn.specs.Parts.{Front, Rowed, Replied}
+use Rattle.fields.specs.Outcomes.{OrRefusal, Gives, Refuses}
+use Rattle.fields.specs.Limits.{reportRoom}
+use Rattle.entries.specs.declared.Reply.{Reply}
+use Rattle.entries.specs.declared.Answer.the-variants.{Accepted, Refused}
+use Rattle.stages.specs.Run.{Report}
+use Rattle.entries.specs.Answers.{acceptanceNumber, acceptanceValues, refusalValues, Answered}
+use Rattle.entries.proofs.Deciding.{refusal-number}
+use Rattle.entries.proofs.Doubles.{same-bits, finite}
+use Rattle.numbers.specs.Numbers.{bytesPerNumber, room, bytesOfNumbers, written}
+use Rattle.stratelyn.specs.Conditions.{Front, Rowed, Replied}
 use Rattle.stratelyn.specs.Hosts.{Hosted}
 
 pub hosted-refusal : (refusal : Refusal) {returned : ℕ} (report : List ℕ) {reply replyWas : List ℕ}
     → Replied (number refusal) (refusalValues refusal) returned reply replyWas
-    → Hosted (refused refusal) returned report report reply replyWas
+    → Hosted (Refuses refusal) returned report report reply replyWas
 unfolding bytesOfNumbers
 hosted-refusal refusal report replied =
     record { number-is = replied .returned-is; values-are = replied .reply-is; double-is = tt; report-is = refl }
 
-module _ (result : Result) (ages bytes : ℕ) (numbers : List ℕ) where
+module _ (result : OrRefusal Report) (ages bytes : ℕ) (numbers : List ℕ) where
   -- a run that refuses
   pub run-refused : (refusal : Refusal) → Rowed result ages (room bytes) (Refused refusal) numbers
       → {returned : ℕ} (report : List ℕ) {reply replyWas : List ℕ}
@@ -37,9 +37,9 @@ module _ (result : Result) (ages bytes : ℕ) (numbers : List ℕ) where
       → Hosted result returned report report reply replyWas
   run-refused refusal rowed {returned} report {reply} {replyWas} replied = by result (rowed .answered)
     where
-      by : (result : Result) → Answered result (Refused refusal) → Hosted result returned report report reply replyWas
-      by (reported before rows last) a = absurd (omega (arith, a .number-is, refusal-number refusal))
-      by (refused given) a =
+      by : (result : OrRefusal Report) → Answered result (Refused refusal) → Hosted result returned report report reply replyWas
+      by (Gives given) a = absurd (omega (arith, a .number-is, refusal-number refusal))
+      by (Refuses given) a =
           hosted-refusal given report
           (record { returned-is = replied .returned-is ∙ a .number-is; reply-is = rw (a .values-are) at (replied .reply-is) })
 
@@ -47,34 +47,34 @@ module _ (result : Result) (ages bytes : ℕ) (numbers : List ℕ) where
     pub run-finite : T (not (isNan (reply .last)))
     run-finite = by result (rowed .answered)
       where
-        by : (result : Result) → Answered result (Accepted reply) → T (not (isNan (reply .last)))
-        by (reported before rows last) a = finite (reply .last) last (a .double-is)
-        by (refused refusal) a = absurd (omega (arith, a .number-is, refusal-number refusal))
+        by : (result : OrRefusal Report) → Answered result (Accepted reply) → T (not (isNan (reply .last)))
+        by (Gives given) a = finite (reply .last) (given .last) (a .double-is)
+        by (Refuses refusal) a = absurd (omega (arith, a .number-is, refusal-number refusal))
 
     -- the report has room for the rows
-    pub run-room : bytesPerNumber * (perRow * ages) ≤ bytes
+    pub run-room : bytesPerNumber * (reportRoom ages) ≤ bytes
     run-room = by result (rowed .answered) (rowed .front)
       where
-        by : (result : Result) → Answered result (Accepted reply) → Front result ages (room bytes) numbers
-            → bytesPerNumber * (perRow * ages) ≤ bytes
-        by (reported before rows last) a f = let fits = f .report-room in omega arith
-        by (refused refusal) a f = absurd (omega (arith, a .number-is, refusal-number refusal))
+        by : (result : OrRefusal Report) → Answered result (Accepted reply) → Front result ages (room bytes) numbers
+            → bytesPerNumber * (reportRoom ages) ≤ bytes
+        by (Gives given) a f = let fits = f .report-room in omega arith
+        by (Refuses refusal) a f = absurd (omega (arith, a .number-is, refusal-number refusal))
 
     pub run-accepted : {returned : ℕ} {report reportWas given replyWas : List ℕ}
-        → report ≡ written (take (perRow * ages) numbers) reportWas
+        → report ≡ written (take (reportRoom ages) numbers) reportWas
         → Replied acceptanceNumber (acceptanceValues (reply .before) (reply .last)) returned given replyWas
         → ofBits binary64 (toBits binary64 (reply .last)) ≡ reply .last
         → Hosted result returned report reportWas given replyWas
     run-accepted {returned} {report} {reportWas} {given} {replyWas} reports replied back =
         by result (rowed .answered) (rowed .front)
       where
-        by : (result : Result) → Answered result (Accepted reply) → Front result ages (room bytes) numbers
+        by : (result : OrRefusal Report) → Answered result (Accepted reply) → Front result ages (room bytes) numbers
             → Hosted result returned report reportWas given replyWas
-        by (refused refusal) a f = absurd (omega (arith, a .number-is, refusal-number refusal))
-        by (reported before rows last) a f =
+        by (Refuses refusal) a f = absurd (omega (arith, a .number-is, refusal-number refusal))
+        by (Gives run) a f =
             record {
               number-is = replied .returned-is;
               values-are = rw (a .values-are) at (replied .reply-is);
-              double-is = rw (← same-bits (reply .last) last (a .double-is), back) (a .double-is);
+              double-is = rw (← same-bits (reply .last) (run .last) (a .double-is), back) (a .double-is);
               report-is = rw (f .rows-are) reports;
             }

@@ -7,11 +7,12 @@ use borrow.Author.Tests.{lt-ltb, le-ltb}
 use lib.ListN.{length, replicate}
 use Rattle.fields.specs.declared.refusal.Reading.{Reading}
 use Rattle.fields.specs.declared.refusal.Reading.the-variants.{Fields}
-use Rattle.fields.specs.Layout.{mostFields}
-use Rattle.fields.specs.Amounts.{Outcome, over}
+use Rattle.fields.specs.Sizes.{mostFields}
+use Rattle.fields.specs.Outcomes.{Outcome, over, onward}
 use Rattle.fields.proofs.Accepted.{Accepted}
-use Rattle.stages.specs.Run.{resultOfReading}
-use Rattle.losses.proofs.Readers.{all-close, same-result}
+use Rattle.fields.specs.Quantities.{quantitiesIn}
+use Rattle.stages.specs.Run.{resultOf}
+use Rattle.entries.proofs.Readers.{all-close, same-read}
 use Rattle.numbers.specs.Numbers.{room}
 use Rattle.stratelyn.specs.Hosts.{replyBytes, Hosted, Served}
 
@@ -29,13 +30,13 @@ module _ (outcome : Outcome)
   module _ (reading : Reading) (fields : List ℕ) (same : reading ≡ outcome .reading)
       (is : fields ≡ over (outcome .numbers) (replicate mostFields 0)) where
     pub served : {returned : ℕ} {report reply : List ℕ} (reportWas scratch replyWas : List ℕ) → replyBytes ≤ length replyWas
-        → Hosted (resultOfReading reading fields (room (length reportWas)) (room (length scratch))) returned
+        → Hosted (onward (quantitiesIn reading fields) (λ q. resultOf q (room (length reportWas)) (room (length scratch)))) returned
         report reportWas reply replyWas
         → Served outcome returned report reportWas scratch scratch reply replyWas
     served reportWas scratch replyWas h hosted = record {
       exact =
           rw (le-ltb (length replyWas) replyBytes h)
-          (rw (same-result outcome counted reading fields same is) at hosted);
+          (rw (same-read outcome counted reading fields same is) at hosted);
       scratch-kept = refl;
       close = all-close outcome counted _ _;
     }

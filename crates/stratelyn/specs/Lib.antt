@@ -1,2 +1,2 @@
 pub mod Hosts
-pub mod Parts
+pub mod Conditions

@@ -5,7 +5,7 @@ ghost use Rattle.stratelyn.specs.Hosts.{Served};
 
 mod run;
 
-use fields::layout::MOST_FIELDS;
+use fields::limits::MOST_FIELDS;
 use run::REPLY_BYTES;
 
 // What a reply slice that is too short gives.
@@ -45,6 +45,6 @@ pub extern "C" fn stratelyn_run_list(
         return REPLY_TOO_SHORT;
     }
     let mut fields = [0u64; MOST_FIELDS];
-    let reading = numbers::read_list(list, &mut fields);
+    let reading = numbers::read_list_bytes(list, &mut fields);
     run::serve(reading, &fields, scratch.len(), report, reply)
 }

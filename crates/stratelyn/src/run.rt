@@ -3,19 +3,22 @@ ghost use mathlib.Core.Path.{_≡_};
 ghost use Prim.Native.Nat.{_≤_};
 ghost use lib.ListN.{length};
 ghost use lib.Ieee.{binary64, toBits, ofBits};
+ghost use Rattle.fields.specs.Outcomes.{onward};
+ghost use Rattle.fields.specs.Quantities.{quantitiesOf, quantitiesIn};
 ghost use Rattle.fields.specs.Refusals.{number};
-ghost use Rattle.stages.specs.Run.{resultOfReading};
-ghost use Rattle.losses.specs.Answers.{acceptanceNumber, acceptanceValues, refusalValues};
+ghost use Rattle.stages.specs.Run.{resultOf};
+ghost use Rattle.entries.specs.Answers.{acceptanceNumber, acceptanceValues, refusalValues};
 ghost use Rattle.numbers.specs.Numbers.{room};
 ghost use Rattle.stratelyn.specs.Hosts.{replyBytes, Hosted};
-ghost use Rattle.stratelyn.specs.Parts.{Servable, RowsRunnable, Acceptable, Rowed, Replied};
-use checks::buffers::MOST_NUMBERS;
-use checks::buffers::PER_ROW;
-use fields::layout::MOST_FIELDS;
+ghost use Rattle.stratelyn.specs.Conditions.{Servable, RowsRunnable, Acceptable, Rowed, Replied};
+use entries::Answer;
+use fields::limits::MOST_FIELDS;
+use fields::limits::MOST_REPORT;
+use fields::limits::MOST_SCRATCH;
+use fields::limits::PER_ROW;
 use fields::refusal::Reading;
 use fields::refusal::Refusal;
-use losses::Answer;
-use stages::BeforeAges;
+use stages::before::BeforeAges;
 
 pub const REPLY_BYTES: usize = 64;
 
@@ -62,13 +65,13 @@ fn run_rows(
     rows: &mut [u64],
 ) -> Answer
     requires { ⌜ RowsRunnable segments ages (now fields) (now rows) ⌝ }
-    ensures { λ r. ⌜ Rowed (resultOfReading (Reading.Fields segments ages) (now (fields .entry)) (room «report_bytes»)
+    ensures { λ r. ⌜ Rowed (resultOf (quantitiesOf segments ages (now (fields .entry))) (room «report_bytes»)
         (room «scratch_bytes»)) ages (room «report_bytes») r (now (rows .exit)) ⌝ }
 {
-    let mut scratch = [0u64; MOST_NUMBERS];
-    let report_room = numbers::room_up_to(MOST_NUMBERS, report_bytes);
-    let scratch_room = numbers::room_up_to(MOST_NUMBERS, scratch_bytes);
-    losses::run::run_fields(
+    let mut scratch = [0u64; MOST_SCRATCH];
+    let report_room = numbers::room_up_to(MOST_REPORT, report_bytes);
+    let scratch_room = numbers::room_up_to(MOST_SCRATCH, scratch_bytes);
+    entries::run::run_fields(
         fields,
         segments,
         ages,
@@ -87,11 +90,11 @@ fn serve_fields(
     reply: &mut [u8],
 ) -> u64
     requires { ⌜ Servable (Reading.Fields segments ages) (now fields) (now reply) ⌝ }
-    ensures { λ r. ⌜ Hosted (resultOfReading (Reading.Fields segments ages) (now (fields .entry))
+    ensures { λ r. ⌜ Hosted (resultOf (quantitiesOf segments ages (now (fields .entry)))
         (room (length (now (report .entry)))) (room «scratch_bytes»))
         r (now (report .exit)) (now (report .entry)) (now (reply .exit)) (now (reply .entry)) ⌝ }
 {
-    let mut rows = [0u64; MOST_NUMBERS];
+    let mut rows = [0u64; MOST_REPORT];
     match run_rows(
         fields,
         segments,
@@ -118,8 +121,8 @@ pub(crate) fn serve(
     reply: &mut [u8],
 ) -> u64
     requires { ⌜ Servable reading (now fields) (now reply) ⌝ }
-    ensures { λ r. ⌜ Hosted (resultOfReading reading (now (fields .entry)) (room (length (now (report .entry))))
-        (room «scratch_bytes»)) r (now (report .exit)) (now (report .entry)) (now (reply .exit)) (now (reply .entry)) ⌝ }
+    ensures { λ r. ⌜ Hosted (onward (quantitiesIn reading (now (fields .entry)))
+        (λ q. resultOf q (room (length (now (report .entry)))) (room «scratch_bytes»))) r (now (report .exit)) (now (report .entry)) (now (reply .exit)) (now (reply .entry)) ⌝ }
 {
     match reading {
         Reading::Not(refusal) => refuse(refusal, reply),

@@ -13,8 +13,8 @@ use lib.Dec.{T, leb, ltb, eqb, leb→le, eqb→eq, lit<}
 use lib.Ieee.Fits.{and-l, and-r}
 use borrow.Author.Tests.{ltb-true, ltb-false, le-ltb}
 use Rattle.tables.specs.declared.Row.{Row}
-use Rattle.tables.specs.Lines.{hundred, row, at, hundredths, atRow, weighed, onLine, along, reading}
-use Rattle.tables.specs.Lines.{leftAlong, leftOver, Exact}
+use Rattle.tables.specs.Tables.{hundred, row, at, hundredths, atRow, weighed, onLine, along, reading}
+use Rattle.tables.specs.Exact.{leftAlong, leftOver, Exact}
 use Rattle.tables.proofs.Weights.{weighed-most, weighed-least, weighed-rises}
 
 -- the test passes at each row

@@ -6,7 +6,7 @@ use native.Mathlib.Nat.{mul-add, mul-le-mul, mul-le-mul-right, le-pred-of-lt, lt
 use native.Mathlib.Omega.{arith}
 use lib.Dec.{lit<}
 use Rattle.tables.specs.declared.Row.{Row}
-use Rattle.tables.specs.Lines.{at, hundredths, weighed}
+use Rattle.tables.specs.Tables.{at, hundredths, weighed}
 
 -- the way from a to b goes by way of x
 pub by-way : (value a x b : ℕ) → a ≤ x → x ≤ b → value * (b - a) ≡ value * (b - x) + value * (x - a)

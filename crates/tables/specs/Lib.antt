@@ -1,2 +1,3 @@
-pub mod Lines
 pub mod Tables
+pub mod Exact
+pub mod Conditions

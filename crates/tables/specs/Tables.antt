@@ -1,14 +1,51 @@
--- The rows of document 01, "Coefficients", as they stand there: where, and hundredths. Assumes nothing.
-use Prim.Native.Nat.{ℕ, _*_, _^_}
+-- The promise rests on it. The rows of document 01, "Coefficients", as they stand there, and a table read between them.
+use Prim.Native.Nat.{ℕ, _+_, _-_, _*_, _/_}
+use mathlib.Core.Bool.{cond}
 use mathlib.Core.List.{List, [], _∷_}
+use lib.Dec.{ltb}
 use Rattle.tables.specs.declared.Row.{Row}
+use Rattle.ticks.specs.Ticks.{ticksPerUnit, T}
 use Rattle.tables.specs.declared.Table.{Table}
-use Rattle.tables.specs.declared.Table.the-variants.{Scf, Ssf, Mcf, CreepShare, ShrinkageShare}
-use Rattle.tables.specs.Lines.{row, reading}
 
--- volume/surface is in ticks, 1,024 to an inch
+-- The papers print a coefficient with two decimals.
+abbrev pub hundred : ℕ
+hundred = 100
+
+abbrev pub row : ℕ → ℕ → Row
+row place value = record { 0 = place; 1 = value }
+
+-- where a row stands
+abbrev pub at : Row → ℕ
+at r = r .0
+
+abbrev pub hundredths : Row → ℕ
+hundredths r = r .1
+
+-- A table is read in whole parts of a unit, rounded down: here at a row, and past the last one.
+abbrev pub atRow : ℕ → Row → ℕ
+atRow unit r = unit * hundredths r / hundred
+
+-- On the straight line through two rows a value is the mean of theirs, each weighed by how near x is to it.
+abbrev pub weighed : ℕ → Row → Row → ℕ
+weighed x low high = hundredths low * (at high - x) + hundredths high * (x - at low)
+
+abbrev pub onLine : ℕ → ℕ → Row → Row → ℕ
+onLine unit x low high = unit * weighed x low high / (hundred * (at high - at low))
+
+-- from the row `low` on, at an x that is not before it
+unfoldable pub along : ℕ → ℕ → Row → List Row → ℕ
+along unit x low [] = atRow unit low
+along unit x low (high ∷ rows) = cond (ltb x (at high)) (onLine unit x low high) (along unit x high rows)
+
+-- a whole table. No x that a member has lies before its first row; there that row is read.
+unfoldable pub reading : ℕ → List Row → ℕ → ℕ
+unfolding along
+reading unit [] x = 0
+reading unit (first ∷ rows) x = cond (ltb x (at first)) (atRow unit first) (along unit x first rows)
+
+-- volume/surface is in ticks
 abbrev pub inches : ℕ → ℕ → Row
-inches n hundredths = row (1024 * n) hundredths
+inches n hundredths = row (ticksPerUnit * n) hundredths
 
 -- clocks are in hours
 abbrev pub days : ℕ → ℕ → Row
@@ -40,23 +77,19 @@ shrinkageShareRows life =
     ∷ days 90 62 ∷ days 180 68 ∷ days 365 86 ∷ row life 100 ∷ []
 
 unfoldable pub rowsOf : Table → ℕ → List Row
-rowsOf Scf life = scfRows
-rowsOf Ssf life = ssfRows
-rowsOf Mcf life = mcfRows
-rowsOf CreepShare life = creepShareRows life
-rowsOf ShrinkageShare life = shrinkageShareRows life
-
--- T = 2^24: document 01, "Ticks"
-abbrev pub T : ℕ
-T = 2 ^ 24
+rowsOf Table.Scf life = scfRows
+rowsOf Table.Ssf life = ssfRows
+rowsOf Table.Mcf life = mcfRows
+rowsOf Table.CreepShare life = creepShareRows life
+rowsOf Table.ShrinkageShare life = shrinkageShareRows life
 
 -- "Whole 102,400ths, exact." for SCF and SSF; "Whole 72,000ths, exact." for MCF; "Rounded down to 1/T" for the shares
 abbrev pub unitOf : Table → ℕ
-unitOf Scf = 102400
-unitOf Ssf = 102400
-unitOf Mcf = 72000
-unitOf CreepShare = T
-unitOf ShrinkageShare = T
+unitOf Table.Scf = 102400
+unitOf Table.Ssf = 102400
+unitOf Table.Mcf = 72000
+unitOf Table.CreepShare = T
+unitOf Table.ShrinkageShare = T
 
 -- a table at x, its last row, if it has one that a clock decides, at `life`
 unfoldable pub tableReading : Table → ℕ → ℕ → ℕ

@@ -2,9 +2,12 @@
 ghost use mathlib.Core.Path.{_≡_};
 ghost use Prim.Native.Nat.{_≤_, _<_, suc};
 ghost use lib.ListN.{length, getD};
-ghost use Rattle.tables.specs.Lines.{row, atRow, onLine};
-ghost use Rattle.tables.specs.Tables.{rowsOf, unitOf, T, scfRows, ssfRows, mcfRows, creepShareRows, shrinkageShareRows};
-ghost use Rattle.tables.specs.Tables.{tableReading};
+ghost use Rattle.tables.specs.Tables.{row, atRow, onLine, rowsOf, unitOf, scfRows, ssfRows, mcfRows, creepShareRows};
+ghost use Rattle.tables.specs.Tables.{shrinkageShareRows, tableReading};
+ghost use Rattle.tables.specs.Conditions.{Between};
+ghost use Rattle.ticks.specs.Ticks.{T};
+use ticks::T;
+use ticks::TICKS_PER_UNIT;
 
 pub enum Table {
     Scf,
@@ -17,10 +20,7 @@ pub enum Table {
 // Where a row stands, in ticks of inch or in hours, and its value in hundredths.
 pub struct Row(pub u32, pub u8);
 
-// What 1.00 reads of a share, and friction of 1.
-pub const T: u64 = 16_777_216;
-
-const INCH: u32 = 1024;
+const INCH: u32 = TICKS_PER_UNIT as u32;
 
 const DAY: u32 = 24;
 
@@ -161,8 +161,7 @@ fn at_row(unit: u64, r: Row) -> u64
 }
 
 fn on_line(unit: u64, x: u32, low: Row, high: Row) -> u64
-    requires { ⌜ unit ≤ T ⌝ }
-    requires { ⌜ (low .0 ≤ x) × (x < high .0) ⌝ }
+    requires { ⌜ Between unit x low high ⌝ }
     ensures { λ v. ⌜ v ≡ onLine unit x low high ⌝ }
 {
     let to_high = (high.0 - x) as u64;

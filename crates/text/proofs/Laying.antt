@@ -8,10 +8,10 @@ use native.Mathlib.Omega.{arith}
 use lib.ListN.{length, getD, take, drop, set, length-append, length-set}
 use lib.Seq.{set-split, set-at, drop-at, drop-cons, length-take-le, take-all, take-suc}
 use borrow.Rule.Slice.PartMut.{midOf, putMid}
-use Rattle.fields.specs.Layout.{columns}
-use Rattle.fields.specs.Amounts.{over}
+use Rattle.fields.specs.Quantities.{columns}
+use Rattle.fields.specs.Outcomes.{over}
 use Rattle.fields.proofs.Buffers.{length-over, written-behind}
-use Rattle.line.specs.Line.{lineFeed, lineLength}
+use Rattle.line.specs.Lines.{lineFeed, lineLength}
 use Rattle.text.specs.Columns.{digitOrSpace, firstColumns, inColumns, allInColumns, lineOf, Holds}
 use Rattle.text.specs.Conditions.{Counted}
 

@@ -12,28 +12,29 @@ use lib.ListN.{length, getD, take, drop, replicate, length-append, length-take, 
 use lib.Seq.{getD-drop, drop-drop, take-all, length-take-le}
 use borrow.Author.Tests.{ltb-true, ltb-false}
 use borrow.Rule.Slice.PartMut.{midOf, putMid}
-use Rattle.fields.specs.Amounts.{over}
+use Rattle.fields.specs.Outcomes.{over, OrRefusal, Gives, Refuses}
 use Rattle.fields.specs.declared.refusal.Reading.the-variants.{Fields, Not}
-use Rattle.fields.specs.Layout.{mostFields, headFields, perSegment, perAge}
-use Rattle.fields.specs.Quantities.{Age, agesFrom, agesOf}
-use Rattle.fields.proofs.Buffers.{length-over, written-behind}
-use Rattle.checks.specs.Rows.{perRow, mostNumbers}
 use Rattle.fields.specs.declared.refusal.Refusal.{Refusal}
+use Rattle.fields.specs.Quantities.{headFields, perSegment, perAge, Quantities, Age, agesFrom, quantitiesOf}
 use Rattle.fields.specs.Refusals.{place}
-use Rattle.stages.specs.declared.BeforeAges.{BeforeAges}
-use Rattle.stages.specs.Run.{Result, reported, refused, resultOfReading}
-use Rattle.card.specs.Card.{mostBytes, cardOutcome}
+use Rattle.fields.specs.Limits.{perRow}
+use Rattle.fields.specs.Sizes.{mostFields, mostReport, mostScratch}
+use Rattle.fields.proofs.Buffers.{length-over, written-behind}
+use Rattle.stages.specs.declared.before.BeforeAges.{BeforeAges}
+use Rattle.stages.specs.declared.intervals.Row.{Row}
+use Rattle.stages.specs.Run.{Report, resultOf}
+use Rattle.card.specs.Card.{cardOutcome}
+use Rattle.card.specs.Conditions.{mostBytes}
 use Rattle.card.proofs.Laws.{card-accepted}
 use Rattle.card.proofs.Behind.{behind}
-use Rattle.losses.specs.declared.Reply.{Reply}
-use Rattle.losses.specs.declared.Answer.the-variants.{Accepted, Refused}
-use Rattle.losses.specs.Answers.{numbersBefore, Answered, rowsOf}
-use Rattle.losses.proofs.Deciding.{refusal-number}
-use Rattle.losses.proofs.Padding.{Same, drop-same, same-ages, over-zeros}
-use Rattle.losses.proofs.Readers.{same-result}
+use Rattle.entries.specs.declared.Reply.{Reply}
+use Rattle.entries.specs.declared.Answer.the-variants.{Accepted, Refused}
+use Rattle.entries.specs.Answers.{numbersBefore, numbersOfRows, numbersWritten, Answered}
+use Rattle.entries.proofs.Deciding.{refusal-number}
+use Rattle.entries.proofs.Readers.{same-read}
 use Rattle.text.specs.Columns.{lineOf, Holds}
-use Rattle.text.specs.Conditions.{mostLineBytes, AgesFit, RunFits}
-use Rattle.text.specs.Text.{refusalText, beforeText, agesText, resultText, reportText}
+use Rattle.text.specs.Conditions.{mostLineBytes, AgesFit, RunFits, linesOfAges}
+use Rattle.text.specs.Text.{refusalText, beforeText, agesText, resultText, readText, reportText}
 use Rattle.text.proofs.Laying.{line-length}
 
 -- a text behind another, by way of `&mut buffer[at..]`
@@ -58,8 +59,8 @@ pub record Lined (fields report old : List ℕ) (segments ages : ℕ) (part : Li
   pub at-is : at ≡ mostLineBytes * age
   pub field-is : field ≡ headFields + perSegment * segments + perAge * age
   pub row-is : row ≡ perRow * age
-  pub text : done ++ agesText age (agesFrom (ages - age) (drop field fields)) (drop row report)
-      ≡ agesText 0 (agesOf segments ages fields) report
+  pub text : done ++ linesOfAges age (agesFrom (ages - age) (drop field fields)) (drop row report)
+      ≡ linesOfAges 0 (quantitiesOf segments ages fields .ages) report
 
 pub none-lined : (fields report old : List ℕ) (segments ages : ℕ)
     → Lined fields report old segments ages old 0 (headFields + perSegment * segments) 0 0
@@ -80,10 +81,10 @@ ageNumbers fields report field row age =
     age ∷ getD fields field 0 ∷ getD report row 0 ∷ getD report (row + 1) 0 ∷ getD report (row + 2) 0 ∷ getD report (row + 3) 0 ∷ []
 
 next-text : (fields report : List ℕ) (left field row age : ℕ)
-    → agesText age (agesFrom (suc left) (drop field fields)) (drop row report)
+    → linesOfAges age (agesFrom (suc left) (drop field fields)) (drop row report)
     ≡ lineOf (ageNumbers fields report field row (suc age))
-    ++ agesText (suc age) (agesFrom left (drop (field + perAge) fields)) (drop (row + perRow) report)
-unfolding agesText agesFrom
+    ++ linesOfAges (suc age) (agesFrom left (drop (field + perAge) fields)) (drop (row + perRow) report)
+unfolding linesOfAges agesFrom
 next-text fields report left field row age =
     rw (
       getD-drop field fields 0 0,
@@ -97,8 +98,8 @@ next-text fields report left field row age =
       add-zero row,
     )
 
-no-text : (fields report : List ℕ) (age : ℕ) → agesText age (agesFrom 0 fields) report ≡ []
-unfolding agesText agesFrom
+no-text : (fields report : List ℕ) (age : ℕ) → linesOfAges age (agesFrom 0 fields) report ≡ []
+unfolding linesOfAges agesFrom
 no-text fields report age = refl
 
 module _ {fields report old : List ℕ} {segments ages : ℕ} {part : List ℕ} {at field row age : ℕ}
@@ -131,7 +132,7 @@ module _ {fields report old : List ℕ} {segments ages : ℕ} {part : List ℕ} 
             ∙ (rw left at (lined .text)));
       }
 
-  pub all-lined : ages ≤ age → Holds (agesText 0 (agesOf segments ages fields) report) at part old
+  pub all-lined : ages ≤ age → Holds (linesOfAges 0 (quantitiesOf segments ages fields .ages) report) at part old
   all-lined h =
       let within = lined .within in
       let none : ages - age ≡ 0 = omega arith in
@@ -155,43 +156,43 @@ ages-fit {segments} {ages} {at} {fields} {buffer} {old} before fits holds =
 
 -- ---- an answer
 
-ages-text : (passed : ℕ) (ages : List Age) (rows others : List ℕ) → Same rows others
-    → agesText passed ages rows ≡ agesText passed ages others
-unfolding agesText
-ages-text passed [] rows others same = refl
-ages-text passed (age ∷ ages) rows others same =
-    rw (
-      same 0,
-      same 1,
-      same 2,
-      same 3,
-      ages-text (suc passed) ages (drop perRow rows) (drop perRow others) (drop-same perRow rows others same),
-    )
+-- the lines that the numbers of some rows make, one row for each age
+lines-are : (passed : ℕ) (ages : List Age) (rows : List Row) (rest : List ℕ) → length rows ≡ length ages
+    → linesOfAges passed ages (numbersOfRows rows ++ rest) ≡ agesText passed ages rows
+unfolding linesOfAges agesText numbersOfRows
+lines-are passed [] rows rest e = refl
+lines-are passed (age ∷ ages) [] rest e = absurd (omega arith)
+lines-are passed (age ∷ ages) (row ∷ rows) rest e = rw (lines-are (suc passed) ages rows rest (omega arith))
 
-module _ (ages : List Age) {result : Result} {bytes : ℕ} {buffer old : List ℕ} where
-  pub refusal-printed : {refusal : Refusal} → Answered result (Refused refusal) → Holds (refusalText refusal) bytes buffer old
-      → Holds (resultText ages result) bytes buffer old
-  refusal-printed {refusal} answered holds = rw (by result answered) at holds
+-- what the report program runs
+abbrev result : Quantities → OrRefusal Report
+result q = resultOf q mostReport mostScratch
+
+module _ (q : Quantities) {bytes : ℕ} {buffer old : List ℕ} where
+  pub refusal-printed : {refusal : Refusal} → Answered (result q) (Refused refusal) → Holds (refusalText refusal) bytes buffer old
+      → Holds (readText (Gives q)) bytes buffer old
+  refusal-printed {refusal} answered holds = rw (by (result q) answered) at holds
     where
-      by : (result : Result) → Answered result (Refused refusal) → refusalText refusal ≡ resultText ages result
-      by (reported before rows last) a = absurd (omega (arith, a .number-is, refusal-number refusal))
-      by (refused given) a =
+      by : (given : OrRefusal Report) → Answered given (Refused refusal) → refusalText refusal ≡ resultText (q .ages) given
+      by (Gives report) a = absurd (omega (arith, a .number-is, refusal-number refusal))
+      by (Refuses given) a =
           let values = a .values-are in
           let at : place refusal ≡ place given = cc in
           rw (a .number-is, at)
 
-  pub run-printed : (reply : Reply) (report : List ℕ) (room : ℕ) → Answered result (Accepted reply)
-      → report ≡ over (rowsOf result) (replicate room 0)
-      → Holds (beforeText (reply .before) ++ agesText 0 ages report) bytes buffer old → Holds (resultText ages result) bytes buffer old
-  run-printed reply report room answered written holds = rw (by result answered written) at holds
+  pub run-printed : (reply : Reply) (report was : List ℕ) → ((given : Report) → result q ≡ Gives given → length (given .rows) ≡ length (q .ages))
+      → Answered (result q) (Accepted reply) → report ≡ over (numbersWritten (result q)) was
+      → Holds (beforeText (reply .before) ++ linesOfAges 0 (q .ages) report) bytes buffer old
+      → Holds (readText (Gives q)) bytes buffer old
+  run-printed reply report was counted answered written holds = rw (by (result q) refl answered written) at holds
     where
-      by : (result : Result) → Answered result (Accepted reply) → report ≡ over (rowsOf result) (replicate room 0)
-          → beforeText (reply .before) ++ agesText 0 ages report ≡ resultText ages result
-      by (refused refusal) a is = absurd (omega (arith, a .number-is, refusal-number refusal))
-      by (reported before rows last) a is =
+      by : (run : OrRefusal Report) → result q ≡ run → Answered run (Accepted reply) → report ≡ over (numbersWritten run) was
+          → beforeText (reply .before) ++ linesOfAges 0 (q .ages) report ≡ resultText (q .ages) run
+      by (Refuses refusal) gives a is = absurd (omega (arith, a .number-is, refusal-number refusal))
+      by (Gives given) gives a is =
           let values = a .values-are in
-          let text : beforeText (reply .before) ≡ beforeText before = cc in
-          rw (is, ages-text 0 ages (over rows (replicate room 0)) rows (over-zeros rows room), text)
+          let text : beforeText (reply .before) ≡ beforeText (given .before) = cc in
+          rw (is, lines-are 0 (q .ages) (given .rows) _ (counted given gives), text)
 
 -- ---- a card
 
@@ -202,17 +203,10 @@ refused-card card e = rw (← e)
 
 pub read-card : (card fields : List ℕ) {segments ages : ℕ} → Fields segments ages ≡ cardOutcome card .reading
     → fields ≡ over (cardOutcome card .numbers) (replicate mostFields 0)
-    → resultText (agesOf segments ages fields) (resultOfReading (Fields segments ages) fields mostNumbers mostNumbers) ≡ reportText card
+    → readText (Gives (quantitiesOf segments ages fields)) ≡ reportText card
 unfolding reportText
 read-card card fields {segments} {ages} e is =
-    let outcome = cardOutcome card in
-    let zeros = over-zeros (outcome .numbers) mostFields in
-    let same : Same fields (outcome .numbers) = rw is zeros in
-    rw (
-      same-result outcome (card-accepted card) (Fields segments ages) fields e is mostNumbers mostNumbers,
-      same-ages segments ages fields (outcome .numbers) same,
-      ← e,
-    )
+    ap readText (same-read (cardOutcome card) (card-accepted card) (Fields segments ages) fields e is)
 
 -- the first bytes of an input decide its text, where they are more than the longest good card has
 pub input-text : (buffer bytes input : List ℕ) → mostBytes < length buffer → bytes ≡ take (length buffer) input

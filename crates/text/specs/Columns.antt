@@ -1,13 +1,14 @@
--- Numbers in columns: document 01, "Sample beam", "all in ticks of psi, 14 columns". Assumes nothing.
+-- The report program's text rests on it. Numbers in columns: document 01, "Sample beam", "all in ticks of psi, 14 columns".
 use Prim.Native.Nat.{ℕ, zero, suc, _+_, _-_, _/_, _%_}
 use mathlib.Core.Path.{_≡_}
 use mathlib.Core.Bool.{_&&_, cond}
 use mathlib.Core.List.{List, [], _∷_, _++_}
 use lib.Dec.{eqb, ltb}
 use lib.ListN.{length}
-use Rattle.fields.specs.Layout.{columns}
-use Rattle.fields.specs.Amounts.{over}
-use Rattle.line.specs.Line.{space, lineFeed}
+use Rattle.fields.specs.Quantities.{columns}
+use Rattle.fields.specs.Limits.{perRow}
+use Rattle.fields.specs.Outcomes.{over}
+use Rattle.line.specs.Lines.{space, lineFeed}
 
 -- a number's last digit; 0 is byte 48
 abbrev pub digit : ℕ → ℕ
@@ -32,12 +33,13 @@ unfoldable pub allInColumns : List ℕ → List ℕ
 allInColumns [] = []
 allInColumns (number ∷ numbers) = inColumns number ++ allInColumns numbers
 
--- a line of numbers, and the most that a line has
+-- a line of numbers
 abbrev pub lineOf : List ℕ → List ℕ
 lineOf numbers = allInColumns numbers ++ (lineFeed ∷ [])
 
+-- the most that a line has: an age's number, its hour and its row
 abbrev pub mostPerLine : ℕ
-mostPerLine = 6
+mostPerLine = 2 + perRow
 
 -- a buffer with a text at its front, as it is and as it was, and how many bytes the text has
 pub record Holds (text : List ℕ) (bytes : ℕ) (buffer was : List ℕ) : Type 0 where

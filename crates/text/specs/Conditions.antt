@@ -1,14 +1,15 @@
--- What the inner functions ask for: room for what they lay out, and fields as a reader leaves them; and what whoever takes a text from
--- its buffer asks. The public functions ask for nothing. It serves the code alone. Assumes nothing.
-use Prim.Native.Nat.{ℕ, _+_, _*_, _≤_, _<_}
-use mathlib.Core.List.{List}
+-- It serves the code alone. What the inner functions ask for: room for what they lay out, and fields as a reader leaves them; and what
+-- whoever takes a text from its buffer asks. The public functions ask for nothing.
+use Prim.Native.Nat.{ℕ, suc, _+_, _*_, _≤_, _<_}
+use mathlib.Core.List.{List, [], _∷_, _++_}
 use mathlib.Core.Path.{_≡_}
-use lib.ListN.{length, take}
-use Rattle.fields.specs.Layout.{mostSegments, mostAges}
+use lib.ListN.{length, getD, take, drop}
+use Rattle.fields.specs.Quantities.{Age}
+use Rattle.fields.specs.Limits.{mostSegments, mostAges, perRow}
 use Rattle.checks.specs.Readable.{Readable}
-use Rattle.line.specs.Line.{lineLength}
-use Rattle.card.specs.Card.{mostBytes}
-use Rattle.text.specs.Columns.{mostPerLine}
+use Rattle.line.specs.Lines.{lineLength}
+use Rattle.card.specs.Conditions.{mostBytes}
+use Rattle.text.specs.Columns.{lineOf, mostPerLine}
 
 -- the bytes of the longest line
 abbrev pub mostLineBytes : ℕ
@@ -44,3 +45,11 @@ pub record InputFits (buffer part : List ℕ) : Type 0 where
 -- so many bytes lie within a buffer. The second part follows from the first; both are stated so that what takes these bytes finds them.
 abbrev pub Counted : ℕ → List ℕ → Type 0
 Counted bytes buffer = (bytes ≤ length buffer) × (bytes ≡ length (take bytes buffer))
+
+-- ---- the lines of the ages, as the code lays them out from the numbers of the report
+
+unfoldable pub linesOfAges : ℕ → List Age → List ℕ → List ℕ
+linesOfAges passed [] numbers = []
+linesOfAges passed (age ∷ ages) numbers =
+    lineOf (suc passed ∷ age .hour ∷ getD numbers 0 0 ∷ getD numbers 1 0 ∷ getD numbers 2 0 ∷ getD numbers 3 0 ∷ [])
+    ++ linesOfAges (suc passed) ages (drop perRow numbers)

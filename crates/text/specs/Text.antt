@@ -1,19 +1,18 @@
--- What the report program prints: document 01, "Sample beam". Assumes nothing.
+-- The report program's text rests on it. What it prints: document 01, "Sample beam".
 use Prim.Native.Nat.{ℕ, suc}
 use mathlib.Core.Path.{_≡_}
 use mathlib.Core.List.{List, [], _∷_, _++_}
-use lib.ListN.{length, getD, take, drop}
+use lib.ListN.{length, take}
 use Rattle.fields.specs.declared.refusal.Refusal.{Refusal}
-use Rattle.fields.specs.declared.refusal.Reading.{Reading}
-use Rattle.fields.specs.declared.refusal.Reading.the-variants.{Fields, Not}
+use Rattle.fields.specs.Outcomes.{OrRefusal, Gives, Refuses}
+use Rattle.fields.specs.Quantities.{Quantities, Age, quantitiesRead}
 use Rattle.fields.specs.Refusals.{number, place}
-use Rattle.fields.specs.Quantities.{Age, agesOf}
-use Rattle.checks.specs.Rows.{perRow, mostNumbers}
+use Rattle.fields.specs.Sizes.{mostReport, mostScratch}
 use Rattle.card.specs.Card.{cardOutcome}
-use Rattle.stages.specs.declared.BeforeAges.{BeforeAges}
-use Rattle.stages.specs.Run.{Result, reported, refused}
-use Rattle.losses.specs.Answers.{numbersBefore}
-use Rattle.losses.specs.Promise.{resultOf}
+use Rattle.stages.specs.declared.before.BeforeAges.{BeforeAges}
+use Rattle.stages.specs.declared.intervals.Row.{Row}
+use Rattle.stages.specs.Run.{Report, resultOf}
+use Rattle.entries.specs.Answers.{numbersBefore, numbersOfRow}
 use Rattle.text.specs.Columns.{lineOf, Holds}
 
 -- "A refused card prints number and place, one line of two such columns."
@@ -24,28 +23,26 @@ refusalText refusal = lineOf (number refusal ∷ place refusal ∷ [])
 abbrev pub beforeText : BeforeAges → List ℕ
 beforeText before = lineOf (numbersBefore before)
 
--- "then age number, hour, creep, shrinkage, relaxation, stress": a line for each age that follows `passed` others, from its row
-unfoldable pub agesText : ℕ → List Age → List ℕ → List ℕ
+-- "then age number, hour, creep, shrinkage, relaxation, stress": a line for each age that follows `passed` others, with its row
+unfoldable pub agesText : ℕ → List Age → List Row → List ℕ
 agesText passed [] rows = []
-agesText passed (age ∷ ages) rows =
-    lineOf (suc passed ∷ age .hour ∷ getD rows 0 0 ∷ getD rows 1 0 ∷ getD rows 2 0 ∷ getD rows 3 0 ∷ [])
-    ++ agesText (suc passed) ages (drop perRow rows)
+agesText passed (age ∷ ages) [] = []
+agesText passed (age ∷ ages) (row ∷ rows) =
+    lineOf (suc passed ∷ age .hour ∷ numbersOfRow row) ++ agesText (suc passed) ages rows
 
 -- a run's text, the ages those of the card
-abbrev pub resultText : List Age → Result → List ℕ
-resultText ages (refused refusal) = refusalText refusal
-resultText ages (reported before rows last) = beforeText before ++ agesText 0 ages rows
+abbrev pub resultText : List Age → OrRefusal Report → List ℕ
+resultText ages (Gives report) = beforeText (report .before) ++ agesText 0 ages (report .rows)
+resultText ages (Refuses refusal) = refusalText refusal
 
--- the ages of what was read
-abbrev pub agesRead : Reading → List ℕ → List Age
-agesRead (Fields segments ages) fields = agesOf segments ages fields
-agesRead (Not refusal) fields = []
+-- the text of what was read; the report program lends room for every member's rows
+abbrev pub readText : OrRefusal Quantities → List ℕ
+readText (Gives q) = resultText (q .ages) (resultOf q mostReport mostScratch)
+readText (Refuses refusal) = refusalText refusal
 
--- "The report program reads a card from standard input.": what it prints for a card. It lends room for every member's rows.
+-- "The report program reads a card from standard input.": what it prints for a card
 unfoldable pub reportText : List ℕ → List ℕ
-reportText card =
-    let outcome = cardOutcome card in
-    resultText (agesRead (outcome .reading) (outcome .numbers)) (resultOf outcome mostNumbers mostNumbers)
+reportText card = readText (quantitiesRead (cardOutcome card))
 
 -- a buffer into which an input was read, so many bytes of it: all of them, or as many as the buffer holds
 abbrev pub Read : List ℕ → ℕ → List ℕ → Type 0

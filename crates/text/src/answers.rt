@@ -1,23 +1,22 @@
 // What is printed of a run: a line of number and place, or a line of the losses before the ages and a line for each age.
-ghost use Rattle.fields.specs.Quantities.{agesOf};
-ghost use Rattle.checks.specs.Rows.{mostNumbers};
-ghost use Rattle.stages.specs.Run.{resultOfReading};
+ghost use Rattle.fields.specs.Outcomes.{Gives};
+ghost use Rattle.fields.specs.Quantities.{quantitiesOf};
 ghost use Rattle.text.specs.Columns.{Holds};
-ghost use Rattle.text.specs.Conditions.{RoomForLine, AgesFit, RunFits};
-ghost use Rattle.text.specs.Text.{refusalText, beforeText, agesText, resultText};
+ghost use Rattle.text.specs.Conditions.{RoomForLine, AgesFit, RunFits, linesOfAges};
+ghost use Rattle.text.specs.Text.{refusalText, beforeText, readText};
 use crate::columns;
-use checks::buffers::MOST_NUMBERS;
-use checks::buffers::PER_ROW;
+use entries::Answer;
+use entries::run;
 use fields::layout::HEAD_FIELDS;
-use fields::layout::MOST_FIELDS;
 use fields::layout::PER_AGE;
 use fields::layout::PER_SEGMENT;
+use fields::limits::MOST_FIELDS;
+use fields::limits::MOST_REPORT;
+use fields::limits::MOST_SCRATCH;
+use fields::limits::PER_ROW;
 use fields::refusal;
-use fields::refusal::Reading;
 use fields::refusal::Refusal;
-use losses::Answer;
-use losses::run;
-use stages::BeforeAges;
+use stages::before::BeforeAges;
 
 // A refusal's line.
 pub(crate) fn put_refusal(part: &mut [u8], refusal: Refusal) -> usize
@@ -53,10 +52,10 @@ fn put_ages(
     fields: &[u64; MOST_FIELDS],
     segments: u64,
     ages: u64,
-    report: &[u64; MOST_NUMBERS],
+    report: &[u64; MOST_REPORT],
 ) -> usize
     requires { ⌜ AgesFit segments ages (now part) ⌝ }
-    ensures { λ r. ⌜ Holds (agesText 0 (agesOf segments ages (now (fields .entry))) (now (report .entry)))
+    ensures { λ r. ⌜ Holds (linesOfAges 0 (quantitiesOf segments ages (now (fields .entry)) .ages) (now (report .entry)))
         r (now (part .exit)) (now (part .entry)) ⌝ }
 {
     let mut at = 0usize;
@@ -90,12 +89,11 @@ pub(crate) fn put_run(
     ages: u64,
 ) -> usize
     requires { ⌜ RunFits segments ages (now fields) (now part) ⌝ }
-    ensures { λ r. ⌜ Holds (resultText (agesOf segments ages (now (fields .entry)))
-        (resultOfReading (Reading.Fields segments ages) (now (fields .entry)) mostNumbers mostNumbers))
+    ensures { λ r. ⌜ Holds (readText (Gives (quantitiesOf segments ages (now (fields .entry)))))
         r (now (part .exit)) (now (part .entry)) ⌝ }
 {
-    let mut report = [0u64; MOST_NUMBERS];
-    let mut scratch = [0u64; MOST_NUMBERS];
+    let mut report = [0u64; MOST_REPORT];
+    let mut scratch = [0u64; MOST_SCRATCH];
     match run::run_fields(fields, segments, ages, &mut report, &mut scratch) {
         Answer::Refused(refusal) => put_refusal(part, refusal),
         Answer::Accepted(reply) => {

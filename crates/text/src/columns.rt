@@ -2,9 +2,9 @@
 ghost use mathlib.Core.Path.{_≡_};
 ghost use Prim.Native.Nat.{_≤_};
 ghost use lib.ListN.{length};
-ghost use Rattle.fields.specs.Layout.{columns};
-ghost use Rattle.fields.specs.Amounts.{over};
-ghost use Rattle.line.specs.Line.{lineLength};
+ghost use Rattle.fields.specs.Quantities.{columns};
+ghost use Rattle.fields.specs.Outcomes.{over};
+ghost use Rattle.line.specs.Lines.{lineLength};
 ghost use Rattle.text.specs.Columns.{digitOrSpace, inColumns, lineOf, Holds};
 use line::COLUMNS;
 use line::LINE_FEED;

@@ -7,15 +7,16 @@ ghost use Rattle.text.specs.Text.{refusalText, beforeText, reportText, P
 mod answers;
 mod columns;
 
-use fields::layout::MOST_AGES;
-use fields::layout::MOST_FIELDS;
+use fields::limits::MOST_AGES;
+use fields::limits::MOST_FIELDS;
+use fields::limits::PER_ROW;
 use fields::refusal::Reading;
 use fields::refusal::Refusal;
 use line::COLUMNS;
-use stages::BeforeAges;
+use stages::before::BeforeAges;
 
-// The most numbers of a line, and the bytes of such a line.
-const MOST_PER_LINE: usize = 6;
+// The most numbers of a line, an age's: its number, its hour and its row. And the bytes of such a line.
+const MOST_PER_LINE: usize = 2 + PER_ROW;
 
 pub const MOST_LINE_BYTES: usize = COLUMNS * MOST_PER_LINE + 1;
 

@@ -1,23 +1,20 @@
--- What callers use of the readings and of the numbers in place of their definitions: what a double of a given value reads, which
--- doubles are refused, how large an amount can be, and that numbers and bytes go into each other without loss. The bits of a double
--- and its value are equal fractions, which settles the readings; the bytes go by recursion. Assumes nothing.
+-- What callers use of the readings in place of their definitions: what a double of a given value reads, which doubles are refused,
+-- and how large an amount can be. The bits of a double and its value are equal fractions, which settles the readings. Assumes nothing.
 use mathlib.Core.Path.{_≡_, refl, sym, ap, _∙_}
 use mathlib.Core.Bool.{Bool, true, false, not, _&&_, _||_, and-false, and-eq-true-iff, cond}
 use mathlib.Core.Logic.{_⊎_, inl, inr}
-use mathlib.Core.List.{List, [], _∷_}
-use Prim.Native.Nat.{ℕ, zero, suc, _+_, _*_, _/_, _%_, _^_, _≤_, _<_}
-use native.Mathlib.Nat.{pow-suc, mul-comm, mul-assoc, mul-right-comm, mul-lt-mul-of-pos-right, div-lt-iff-lt-mul}
+use Prim.Native.Nat.{ℕ, _*_, _/_, _%_, _^_, _≤_, _<_}
+use native.Mathlib.Nat.{mul-comm, mul-assoc, mul-right-comm, mul-lt-mul-of-pos-right, div-lt-iff-lt-mul}
 use native.Mathlib.Omega.{arith}
-use lib.IntN.{ℤ, pos}
+use lib.IntN.{ℤ}
 use lib.Dec.{T, ltb, eqb, lit<}
-use lib.ListN.{length, getD}
 use lib.Ieee.{Float, nan, inf, fin, binary64, up, down, fits, toBits}
 use lib.Ieee.Fits.{down-pos}
 use lib.Ieee.Nearest.{div-same}
 use borrow.Author.Tests.{lt-ltb, le-ltb, ltb-true, ne-eqb}
 use Rattle.ticks.specs.declared.Amount.the-variants.{Of, Refused}
-use Rattle.ticks.specs.Doubles.{sign, exponent, magnitude, one, notFinite, ticksPerUnit, tooLarge, accepted, ticksOf, wholeOf}
-use Rattle.ticks.specs.Numbers.{numberOf, bytesOf}
+use Rattle.ticks.specs.Doubles.{sign, exponent, magnitude, one, notFinite, tooLarge, accepted, ticksOf, wholeOf}
+use Rattle.ticks.specs.Ticks.{ticksPerUnit}
 use Rattle.ticks.proofs.Values.{stands, accepted-value, same-whole, one-some}
 
 -- ---- what a double of a given value reads
@@ -51,11 +48,6 @@ whole-of-value m e f l =
       same-whole n one (m * up e) (down e) one-some (down-pos e) value,
       div-same n one (m * up e) (down e) one-some (down-pos e) value,
     )
-
--- -0.0 reads 0 both ways.
-pub minus-zero-of-value : (ticksOf (toBits binary64 (fin true 0 (pos 0))) ≡ Of 0) × (wholeOf (toBits binary64 (fin true 0 (pos 0))) ≡ Of 0)
-unfolding ticksOf wholeOf magnitude toBits
-minus-zero-of-value = (refl, refl)
 
 -- ---- what is refused
 
@@ -110,51 +102,3 @@ whole-below bits n e =
     let taken = picked (accepted bits && eqb (magnitude bits % one) 0) (magnitude bits / one) n e in
     let a = and-eq-true-iff (accepted bits) (eqb (magnitude bits % one) 0) .0 (taken .0) .0 in
     rw (← taken .1) (div-lt-iff-lt-mul one-some .1 (small bits a))
-
--- ---- numbers as bytes
-
--- each byte is below 256
-abbrev pub Bytes : List ℕ → Type 0
-Bytes bytes = (k : ℕ) → getD bytes k 0 < 256
-
--- a number has as many bytes as are asked for
-pub bytes-length : (count number : ℕ) → length (bytesOf count number) ≡ count
-unfolding bytesOf
-bytes-length zero number = refl
-bytes-length (suc count) number = ap suc (bytes-length count (number / 256))
-
--- and each of them is below 256
-pub bytes-of-are-bytes : (count number : ℕ) → Bytes (bytesOf count number)
-unfolding bytesOf
-bytes-of-are-bytes zero number k = lit< tt
-bytes-of-are-bytes (suc count) number zero = omega arith
-bytes-of-are-bytes (suc count) number (suc k) = bytes-of-are-bytes count (number / 256) k
-
--- some bytes make a number that fits them
-pub number-below : (bytes : List ℕ) → Bytes bytes → numberOf bytes < 256 ^ length bytes
-unfolding numberOf
-number-below [] h = lit< tt
-number-below (byte ∷ bytes) h =
-    let p = pow-suc 256 (length bytes) in
-    let b = h 0 in
-    let n = number-below bytes (λ k. h (suc k)) in
-    omega arith
-
--- a number that fits so many bytes is what these make
-pub number-of-bytes : (count number : ℕ) → number < 256 ^ count → numberOf (bytesOf count number) ≡ number
-unfolding numberOf bytesOf
-number-of-bytes zero number h = omega arith
-number-of-bytes (suc count) number h =
-    let p = pow-suc 256 count in
-    let n = number-of-bytes count (number / 256) (omega arith) in
-    omega arith
-
--- some bytes are those of the number that they make
-pub bytes-of-number : (bytes : List ℕ) → Bytes bytes → bytesOf (length bytes) (numberOf bytes) ≡ bytes
-unfolding numberOf bytesOf
-bytes-of-number [] h = refl
-bytes-of-number (byte ∷ bytes) h =
-    let b : byte < 256 = h 0 in
-    let lowest : (byte + 256 * numberOf bytes) % 256 ≡ byte = omega arith in
-    let others : (byte + 256 * numberOf bytes) / 256 ≡ numberOf bytes = omega arith in
-    rw (lowest, others, bytes-of-number bytes (λ k. h (suc k)))

@@ -2,4 +2,3 @@ pub mod Laws
 mod Bits
 mod Values
 mod Readings
-mod Bytes

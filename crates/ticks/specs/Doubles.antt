@@ -1,10 +1,9 @@
--- What a double says in whole numbers: document 01, "The card", from "A host may instead lend one list of doubles" on.
--- A double is given by its 64 bits, a number below 2 ^ 64. Assumes nothing.
+-- The promise rests on it. What a double, given by its 64 bits, says in whole numbers: document 01, "The card".
 use Prim.Native.Nat.{ℕ, _+_, _-_, _*_, _/_, _%_, _^_}
 use mathlib.Core.Bool.{Bool, not, _&&_, _||_, cond}
 use lib.Dec.{leb, ltb, eqb}
+use Rattle.ticks.specs.Ticks.{ticksPerUnit}
 use Rattle.ticks.specs.declared.Amount.{Amount}
-use Rattle.ticks.specs.declared.Amount.the-variants.{Of, Refused}
 
 -- ---- the three parts of the bits, and the number that they stand for
 
@@ -36,10 +35,6 @@ one = 2 ^ 1074
 
 -- ---- document 01's two readings of a double
 
--- A tick is 1/1024 of its unit: document 01, "Ticks".
-abbrev pub ticksPerUnit : ℕ
-ticksPerUnit = 1024
-
 -- the first double that is too large: row "doubles" of the refusals
 abbrev pub tooLarge : ℕ
 tooLarge = 2 ^ 31
@@ -53,8 +48,8 @@ accepted bits =
 
 -- "the largest whole number of ticks not above it"
 unfoldable pub ticksOf : ℕ → Amount
-ticksOf bits = cond (accepted bits) (Of (magnitude bits * ticksPerUnit / one)) Refused
+ticksOf bits = cond (accepted bits) (Amount.Of (magnitude bits * ticksPerUnit / one)) Amount.Refused
 
 -- "any other must be whole"
 unfoldable pub wholeOf : ℕ → Amount
-wholeOf bits = cond (accepted bits && eqb (magnitude bits % one) 0) (Of (magnitude bits / one)) Refused
+wholeOf bits = cond (accepted bits && eqb (magnitude bits % one) 0) (Amount.Of (magnitude bits / one)) Amount.Refused

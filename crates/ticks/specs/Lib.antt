@@ -1,3 +1,3 @@
+pub mod Ticks
 pub mod Doubles
 pub mod Decoder
-pub mod Numbers

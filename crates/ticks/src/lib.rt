@@ -1,15 +1,12 @@
-// Numbers at the edge of the core: doubles in, by their bits, as ticks or as whole numbers; ticks out, as the exact double;
-// numbers of eight bytes.
+// Numbers at the edge of the core: doubles in, by their bits, as ticks or as whole numbers; ticks out, as the exact double.
 ghost use mathlib.Core.Path.{_≡_};
 ghost use mathlib.Core.Bool.{false};
-ghost use mathlib.Core.List.{_++_};
 ghost use Prim.Native.Nat.{_≤_};
 ghost use lib.Ieee.{toBits, binary64};
 ghost use lib.Ieee.Exact.{HasValue};
-ghost use lib.ListN.{length, take, drop};
-ghost use Rattle.ticks.specs.Doubles.{ticksOf, wholeOf, ticksPerUnit};
+ghost use Rattle.ticks.specs.Doubles.{ticksOf, wholeOf};
+ghost use Rattle.ticks.specs.Ticks.{ticksPerUnit};
 ghost use Rattle.ticks.specs.Decoder.{decodedOf, tickDoublings};
-ghost use Rattle.ticks.specs.Numbers.{numberOf, bytesOf, bytesPerNumber};
 
 // What a double reads.
 pub enum Amount {
@@ -36,12 +33,11 @@ const FRACTION_DIGITS: u64 = 52;
 
 pub const TICKS_PER_UNIT: u64 = 1024;
 
+// 2^24
+pub const T: u64 = 16_777_216;
+
 // A unit is 2^10 ticks.
 const TICK_DOUBLINGS: u64 = 10;
-
-pub const BYTES_PER_NUMBER: usize = 8;
-
-const BYTE_VALUES: u64 = 256;
 
 // The one decoder. The significand has 53 digits, so that a cut of more leaves 0.
 fn decode(bits: u64, doublings: u64) -> Decoded
@@ -124,40 +120,4 @@ pub fn double_of_ticks(ticks: u32) -> f64
     ensures { λ r. ⌜ HasValue r false ticks ticksPerUnit ⌝ }
 {
     (ticks as f64) * 0.0009765625
-}
-
-fn wide(byte: u8) -> u64
-    ensures { λ r. ⌜ r ≡ byte ⌝ }
-{
-    byte as u64
-}
-
-// The number that the first eight bytes of a part make, lowest first; of a shorter part, its bytes.
-pub fn read_number(part: &[u8]) -> u64
-    ensures { λ r. ⌜ r ≡ numberOf (take bytesPerNumber (now (part .entry))) ⌝ }
-{
-    let mut left = part.len();
-    if BYTES_PER_NUMBER < left {
-        left = BYTES_PER_NUMBER;
-    }
-    let mut number: u64 = 0;
-    while 0 < left {
-        left -= 1;
-        number = number * BYTE_VALUES + wide(part[left]);
-    }
-    number
-}
-
-// A number's eight bytes at the front of a part, lowest first; in a shorter part, as many as it holds.
-pub fn write_number(part: &mut [u8], number: u64)
-    ensures { λ _. ⌜ now (part .exit)
-        ≡ take (length (now (part .entry))) (bytesOf bytesPerNumber number) ++ drop bytesPerNumber (now (part .entry)) ⌝ }
-{
-    let mut rest = number;
-    let mut at = 0usize;
-    while at < BYTES_PER_NUMBER && at < part.len() {
-        part[at] = (rest % BYTE_VALUES) as u8;
-        rest = rest / BYTE_VALUES;
-        at += 1;
-    }
 }

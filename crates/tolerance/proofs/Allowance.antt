@@ -1,53 +1,56 @@
--- What a step may cost, and why a run keeps within it. At the same whole stress the core's step and the exact one differ by at
--- most the step's own error: 727 ticks of floors, which is an age's, and 37,600·δ of logarithms that lie up to δ above the table's.
--- The exact step brings no two stresses further apart. So after one step more the distance is at most one step's allowance more.
--- Narrow and wide are two choices of δ and the allowance, 0 with 1,024 and 1 with 40,960. Assumes nothing.
-use Prim.Native.Nat.{ℕ, suc, _+_, _-_, _*_, _≤_}
+-- What a step may cost. At the same whole stress the core's step and the exact one differ by at most the step's own error, of which
+-- an age's is the largest. Narrow and wide are two choices of how far the logarithms may lie above the table's, and of what a step is
+-- allowed: 0 with 1 psi, and 1 with 40 psi. A stress of the core is at most 0.80 F, and all steps at 40 psi each do not lead from
+-- there past 1.1·Y, up to which the exact steps keep their distance: the lemma `room`. Assumes nothing.
+use Prim.Native.Nat.{ℕ, _+_, _*_, _≤_}
 use native.Mathlib.Nat.{mul-le-mul}
 use native.Mathlib.Omega.{arith}
 use lib.Dec.{lit≤}
-use Rattle.fraction.specs.Fraction.{Fraction, whole, _⊕_, _⊖_, _≼_, Within}
-use Rattle.fraction.proofs.Laws.{≈-refl, ≈-sym}
-use Rattle.fraction.proofs.Floors.{whole-difference}
-use Rattle.fraction.proofs.Distances.{within-refl, within-trans, within-weaken, within-resp-≈, within-difference}
-use Rattle.tolerance.specs.Logarithms.{Admissible, tableLogarithm}
+use Rattle.fraction.specs.Fraction.{Fraction, whole, _⊕_, _⊗_, _≼_}
+use Rattle.fraction.proofs.Laws.{≼-trans}
+use Rattle.ticks.specs.Ticks.{ticksPerUnit}
+use Rattle.coefficient.specs.declared.codes.Steel.{Steel}
+use Rattle.coefficient.specs.declared.codes.Steel.the-variants.{StressRelieved, LowRelaxation}
+use Rattle.fields.specs.Limits.{range, mostOfStrength, hundredths, mostSegments, mostAges}
+use Rattle.tolerance.specs.Formulas.{_÷_}
+use Rattle.tolerance.specs.Method.{Choice, Admissible, tableChoice}
 use Rattle.tolerance.specs.Demand.{narrowStep, wideStep}
-use Rattle.tolerance.proofs.Logarithms.{Logs, table-logs, admissible-logs}
+use Rattle.tolerance.proofs.Logarithms.{mostAbove, Logs, table-logs, admissible-logs}
+use Rattle.tolerance.proofs.Bounds.{shrinkageError}
+use Rattle.tolerance.proofs.Creep.{creepError}
+use Rattle.tolerance.proofs.Relaxation.{yieldPart, relaxationErrorBy}
+use Rattle.tolerance.proofs.RelaxationSlope.{aboveYield, mostStress}
+
+-- an age's three losses, by logarithms up to δ above the table's
+abbrev pub ageErrorBy : ℕ → ℕ
+ageErrorBy δ = creepError + shrinkageError + relaxationErrorBy δ
 
 -- logarithms at most δ above the table's, and an allowance that covers every step with them
-pub record Allowance (δ step : ℕ) (log : ℕ → Fraction) : Type 0 where
-  pub logs : Logs δ log
-  pub δ-most : δ ≤ 1
-  pub covers : 727 + 37600 * δ ≤ step
+pub record Allowance (δ step : ℕ) (choice : Choice) : Type 0 where
+  pub logs : Logs δ choice
+  pub covers : ageErrorBy δ ≤ step
   pub step-most : step ≤ wideStep
 
-pub narrow-allowance : Allowance 0 narrowStep tableLogarithm
-narrow-allowance = record { logs = table-logs; δ-most = lit≤ tt; covers = lit≤ tt; step-most = lit≤ tt }
+pub narrow-allowance : Allowance 0 narrowStep tableChoice
+narrow-allowance = record { logs = table-logs; covers = lit≤ tt; step-most = lit≤ tt }
 
-pub wide-allowance : {log : ℕ → Fraction} → Admissible log → Allowance 1 wideStep log
-wide-allowance admissible = record { logs = admissible-logs admissible; δ-most = lit≤ tt; covers = lit≤ tt; step-most = lit≤ tt }
+pub wide-allowance : {choice : Choice} → Admissible choice → Allowance mostAbove wideStep choice
+wide-allowance admissible = record { logs = admissible-logs admissible; covers = lit≤ tt; step-most = lit≤ tt }
 
--- 64 segments, 64 ages, slip, early relaxation and shortening
+-- the steps of the longest path and the most ages, with slip, early relaxation and shortening
 abbrev pub mostSteps : ℕ
-mostSteps = 131
+mostSteps = mostSegments + mostAges + 3
 
 -- how far apart so many steps can be
-pub steps-top : {δ step : ℕ} {log : ℕ → Fraction} → Allowance δ step log → (k : ℕ) → k ≤ mostSteps
+pub steps-top : {δ step : ℕ} {choice : Choice} → Allowance δ step choice → (k : ℕ) → k ≤ mostSteps
     → k * step ≤ mostSteps * wideStep
 steps-top allowed k h = mul-le-mul h (allowed .step-most)
 
-one-step-more : (k step : ℕ) → whole 0 ⊕ whole step ⊕ whole (k * step) ≼ whole (suc k * step)
-unfolding whole _⊕_
-one-step-more k step = record { at-most = omega arith }
+room-for : (P n d : ℕ) → 1000 * (n + d) ≤ 11 * P → whole n ⊕ whole d ≼ P ÷ 100 ⊗ aboveYield
+unfolding whole _÷_ _⊕_ _⊗_
+room-for P n d h = record { at-most = omega arith }
 
--- The core takes `loss` off the stress n, and the exact step takes `exact`, of its own stress, off y. At n the two losses are near,
--- and the exact step keeps the distance of n and y.
-pub step-close : (k step n loss : ℕ) (exact : Fraction → Fraction) (y : Fraction) → loss ≤ n
-    → Within (whole step) (whole loss) (exact (whole n))
-    → Within (whole (k * step)) (whole n ⊖ exact (whole n)) (y ⊖ exact y)
-    → Within (whole (suc k * step)) (whole (n - loss)) (y ⊖ exact y)
-step-close k step n loss exact y fits near keeps =
-    within-weaken (one-step-more k step)
-    (within-trans
-    (within-resp-≈ (≈-sym (whole-difference fits)) ≈-refl (within-difference (within-refl (whole n)) near))
-    keeps)
+pub room : (steel : Steel) (F n d : ℕ) (y : Fraction) → range .ultimateStrength .low ≤ F
+    → hundredths * n ≤ mostOfStrength * F * ticksPerUnit → d ≤ mostSteps * wideStep → y ≼ whole n ⊕ whole d → y ≼ mostStress steel F
+room StressRelieved F n d y strong low near h = ≼-trans h (room-for (yieldPart StressRelieved * F * ticksPerUnit) n d (omega arith))
+room LowRelaxation F n d y strong low near h = ≼-trans h (room-for (yieldPart LowRelaxation * F * ticksPerUnit) n d (omega arith))

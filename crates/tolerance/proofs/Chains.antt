@@ -11,8 +11,7 @@ use lib.Seq.{getD-append-add}
 use Rattle.fraction.specs.Fraction.{Fraction, whole, Within}
 use Rattle.fraction.proofs.Floors.{whole-order}
 use Rattle.fraction.proofs.Distances.{within-weaken}
-use Rattle.tolerance.specs.Stresses.{each}
-use Rattle.tolerance.specs.Demand.{Falls}
+use Rattle.tolerance.specs.Demand.{each, Falls}
 
 pub data Chain (step : ℕ) : ℕ → List ℕ → List Fraction → Type 0 where
   no-step : {k : ℕ} → Chain step k [] []
@@ -39,7 +38,7 @@ module _ {A : Type 0} (f : ℕ → A) where
   unfolding each
   each-more count rest = append-assoc (each count f) (f (suc count) ∷ []) rest
 
-  pub each-length : (count : ℕ) → length (each count f) ≡ count
+  each-length : (count : ℕ) → length (each count f) ≡ count
   unfolding each
   each-length zero = refl
   each-length (suc count) = omega (arith, length-append (each count f) (f (suc count) ∷ []), each-length count)
@@ -51,12 +50,12 @@ module _ {A : Type 0} (f : ℕ → A) where
   each-then count rest i d = rw each-length at (getD-append-add (each count f) rest i d)
 
 pub chain-each : (step count : ℕ) (f : ℕ → ℕ) (g : ℕ → Fraction) {xs : List ℕ} {ys : List Fraction}
-    → ((j : ℕ) → Within (whole (j * step)) (whole (f j)) (g j)) → Chain step count xs ys
+    → ((j : ℕ) → Within (whole (suc j * step)) (whole (f (suc j))) (g (suc j))) → Chain step count xs ys
     → Chain step 0 (each count f ++ xs) (each count g ++ ys)
 unfolding each
 chain-each step zero f g near chain = chain
 chain-each step (suc count) f g {xs} {ys} near chain =
-    rw (each-more f count xs, each-more g count ys) (chain-each step count f g near (one-step (near (suc count)) chain))
+    rw (each-more f count xs, each-more g count ys) (chain-each step count f g near (one-step (near count) chain))
 
 pub falls-each : (count : ℕ) (f : ℕ → ℕ) (rest : List ℕ) → ((j : ℕ) → f (suc j) ≤ f j) → Falls (f count) rest
     → Falls (f 0) (each count f ++ rest)

@@ -2,99 +2,77 @@
 -- one. A stress stays below 2^28 ticks, so of the 2 in κ an eighth of a tick is left in f·κ/2^32, whose own division adds 1; and what
 -- g loses is lost on the same side. So the two differ by 9/8 at most. Assumes nothing.
 use mathlib.Core.List.{[], _∷_}
-use Prim.Native.Nat.{ℕ, _+_, _*_, _^_, _≤_, _<_}
+use Prim.Native.Nat.{ℕ, _*_, _/_, _≤_}
+use native.Mathlib.Nat.{le-trans, mul-le-mul, div-le-of-le-mul, sub-le}
 use native.Mathlib.Omega.{arith}
 use lib.Dec.{lit<, lit≤}
-use Rattle.fraction.specs.Fraction.{Fraction, whole, _⊕_, _⊖_, _⊗_, _≈_, _≼_, Within}
-use Rattle.fraction.proofs.Laws.{≈-refl, ≈-sym, ≼-trans, ⊗-assoc, ⊗-not-negative, ⊖-cong, larger-right, larger-least, larger-cong}
-use Rattle.fraction.proofs.Certificate.{num, _⊞_, _⊟_, _⊠_, _⊑_, _⊛_, _⊢_, follows}
-use Rattle.fraction.proofs.Floors.{whole-order, whole-not-negative}
+use Rattle.fraction.specs.Fraction.{Fraction, whole, _⊕_, _⊖_, _⊗_, _≼_, Within}
+use Rattle.fraction.specs.Equality.{_≈_}
+use Rattle.fraction.proofs.Laws.{≈-refl, ≈-sym, ⊗-assoc, ⊗-not-negative, ⊖-cong, larger-right, larger-least, larger-cong}
+use Rattle.fraction.proofs.Certificate.{num, _⊟_, _⊠_, _⊑_, _⊢_, follows}
 use Rattle.fraction.proofs.Slopes.{hinge}
-use Rattle.ticks.specs.Doubles.{ticksPerUnit}
-use Rattle.checks.specs.Rows.{mostKappa}
-use Rattle.member.specs.Constants.{kappa}
-use Rattle.steps.specs.Steps.{momentStress as ticksMomentStress, concreteStress as ticksConcreteStress}
-use Rattle.tolerance.specs.Quotients.{_÷_}
-use Rattle.tolerance.specs.Steps.{momentStress, concreteStress}
+use Rattle.ticks.specs.Ticks.{ticksPerUnit}
+use Rattle.fields.specs.Limits.{range, mostKappa}
+use Rattle.member.specs.Constants.{kappaUnit}
+use Rattle.formulas.specs.Steps.{concreteStress as ticksConcreteStress}
+use Rattle.tolerance.specs.Formulas.{_÷_, concreteStress}
 use Rattle.tolerance.proofs.Quotients.{quotient-not-negative}
-use Rattle.tolerance.proofs.Rounded.{Rounded, floor-rounded, rounded-whole-sum, rounded-part}
-use Rattle.tolerance.proofs.Rounded.{rounded-difference, rounded-not-negative}
+use Rattle.tolerance.proofs.Rounded.{Rounded, rounded-part, rounded-difference}
 
--- 240,000 psi in ticks: the jacking stress is at most 0.80 F, and F at most 300,000 psi
+-- 0.80 F at the highest F, in ticks: no stress is above the jacking stress
 abbrev pub highestStress : ℕ
-highestStress = 240000 * ticksPerUnit
+highestStress = range .jackingStress .high * ticksPerUnit
 
--- a fourth of that, for κ/2^32 is a fourth at most, and room for what κ is off
+-- the divisions in κ
+abbrev pub kappaError : ℕ
+kappaError = 2
+
+-- a division, and what κ is off by, of the highest stress: 1 and 0.115
+abbrev pub concreteError : Fraction
+concreteError = 9 ÷ 8
+
+-- f·κ/2^32 at the highest stress and κ
 abbrev pub highestConcrete : ℕ
-highestConcrete = 2 ^ 26
+highestConcrete = highestStress * mostKappa / kappaUnit
 
 -- 1 / 2^32
-abbrev pub kappaUnit : Fraction
-kappaUnit = 1 ÷ (2 ^ 32)
+abbrev pub perKappaUnit : Fraction
+perKappaUnit = 1 ÷ kappaUnit
 
-pub kappa-unit-not-negative : whole 0 ≼ kappaUnit
-kappa-unit-not-negative = quotient-not-negative 1 (2 ^ 32)
-
--- ---- κ and g
-
-pub kappa-close : (steelArea area eccentricity inertia : ℕ) → 0 < area → 0 < inertia →
-    Rounded (whole 2) (kappa steelArea area eccentricity inertia)
-    ((steelArea * 2 ^ 32) ÷ area ⊕ (4096 * steelArea * (eccentricity * eccentricity)) ÷ inertia)
-kappa-close steelArea area eccentricity inertia a≥1 i≥1 =
-    rounded-whole-sum 1 1 (floor-rounded (steelArea * 2 ^ 32) area a≥1)
-    (floor-rounded (4096 * steelArea * (eccentricity * eccentricity)) inertia i≥1)
-
-pub moment-close : (moments eccentricity inertia : ℕ) → 0 < inertia →
-    Rounded (whole 1) (ticksMomentStress moments eccentricity inertia) (momentStress moments eccentricity inertia)
-moment-close moments eccentricity inertia i≥1 = floor-rounded (moments * eccentricity) inertia i≥1
+pub kappa-unit-not-negative : whole 0 ≼ perKappaUnit
+kappa-unit-not-negative = quotient-not-negative 1 kappaUnit
 
 -- ---- the stress of the concrete in fractions
 
 -- a hinge: a line, and 0 at the least
-pub concrete-is-hinge : (x κ g : Fraction) → hinge (κ ⊗ kappaUnit) g (whole 0) x ≈ concreteStress x κ g
-concrete-is-hinge x κ g = larger-cong (⊖-cong (≈-sym (⊗-assoc x κ kappaUnit)) ≈-refl) ≈-refl
+pub concrete-is-hinge : (x κ g : Fraction) → hinge (κ ⊗ perKappaUnit) g (whole 0) x ≈ concreteStress x κ g
+concrete-is-hinge x κ g = larger-cong (⊖-cong (≈-sym (⊗-assoc x κ perKappaUnit)) ≈-refl) ≈-refl
 
 pub concrete-not-negative : (x κ g : Fraction) → whole 0 ≼ concreteStress x κ g
-concrete-not-negative x κ g = larger-right (x ⊗ κ ⊗ kappaUnit ⊖ g) (whole 0)
+concrete-not-negative x κ g = larger-right (x ⊗ κ ⊗ perKappaUnit ⊖ g) (whole 0)
 
 -- without the moments the stress would be higher
-pub concrete-below : (x κ g : Fraction) → whole 0 ≼ x → whole 0 ≼ κ → whole 0 ≼ g → concreteStress x κ g ≼ x ⊗ κ ⊗ kappaUnit
+pub concrete-below : (x κ g : Fraction) → whole 0 ≼ x → whole 0 ≼ κ → whole 0 ≼ g → concreteStress x κ g ≼ x ⊗ κ ⊗ perKappaUnit
 concrete-below x κ g x≥0 κ≥0 g≥0 = larger-least
-    (follows (x ∷ κ ∷ g ∷ kappaUnit ∷ []) (λ X K G Q. num 0 ⊑ G ∷ [] ⊢ X ⊠ K ⊠ Q ⊟ G ⊑ X ⊠ K ⊠ Q) tt g≥0)
+    (follows (x ∷ κ ∷ g ∷ perKappaUnit ∷ []) (λ X K G Q. num 0 ⊑ G ∷ [] ⊢ X ⊠ K ⊠ Q ⊟ G ⊑ X ⊠ K ⊠ Q) tt g≥0)
     (⊗-not-negative (⊗-not-negative x≥0 κ≥0) kappa-unit-not-negative)
 
 -- ---- ticks and fractions
 
--- 1 + 2·n/2^32
-kappa-share : (n : ℕ) → n ≤ highestStress → whole 1 ⊕ whole n ⊗ whole 2 ⊗ kappaUnit ≼ 9 ÷ 8
+kappa-share : (n : ℕ) → n ≤ highestStress → whole 1 ⊕ whole n ⊗ whole kappaError ⊗ perKappaUnit ≼ concreteError
 unfolding _÷_ whole _⊕_ _⊗_
 kappa-share n h = record { at-most = omega arith }
 
-one-below : whole 1 ≼ 9 ÷ 8
+one-below : whole 1 ≼ concreteError
 unfolding _÷_ whole
 one-below = record { at-most = lit≤ tt }
 
--- n·(2^30 + 2)/2^32
-highest-share : (n : ℕ) → n ≤ highestStress → whole n ⊗ whole (mostKappa + 2) ⊗ kappaUnit ≼ whole highestConcrete
-unfolding _÷_ whole _⊗_
-highest-share n h = record { at-most = omega arith }
+-- what the core's does not exceed
+pub concrete-top : (n κ₀ g₀ : ℕ) → n ≤ highestStress → κ₀ ≤ mostKappa → ticksConcreteStress n κ₀ g₀ ≤ highestConcrete
+concrete-top n κ₀ g₀ n≤ κ₀≤ =
+    le-trans (sub-le (n * κ₀ / kappaUnit) g₀) (div-le-of-le-mul kappaUnit (le-trans (mul-le-mul n≤ κ₀≤) (lit≤ tt)))
 
-module _ (n κ₀ g₀ : ℕ) (κ g : Fraction) (n≤ : n ≤ highestStress) (κ-close : Rounded (whole 2) κ₀ κ)
-    (g-close : Rounded (whole 1) g₀ g) where
-  pub concrete-near : Within (9 ÷ 8) (whole (ticksConcreteStress n κ₀ g₀)) (concreteStress (whole n) κ g)
-  concrete-near = rounded-difference one-below (rounded-part n (2 ^ 32) (9 ÷ 8) (lit< tt) κ-close (kappa-share n n≤)) g-close
-
-  -- n·κ/2^32 where κ is 2^30 + 2 at most
-  pub concrete-top : κ₀ ≤ mostKappa → concreteStress (whole n) κ g ≼ whole highestConcrete
-  concrete-top κ₀≤ = ≼-trans
-      (concrete-below (whole n) κ g (whole-not-negative n) (rounded-not-negative κ-close) (rounded-not-negative g-close))
-      (≼-trans
-      (follows (κ ∷ kappaUnit ∷ whole n ∷ whole κ₀ ∷ [])
-      (λ K Q N K₀.
-      (num 0 ⊑ N) ⊛ (num 0 ⊑ Q) ⊛ (K ⊑ K₀ ⊞ num 2) ∷ (num 0 ⊑ N) ⊛ (num 0 ⊑ Q) ⊛ (K₀ ⊑ num mostKappa) ∷ []
-      ⊢ N ⊠ K ⊠ Q ⊑ N ⊠ num (mostKappa + 2) ⊠ Q) tt
-      ((n≥0, kappa-unit-not-negative), κ-close .greatest) ((n≥0, kappa-unit-not-negative), whole-order κ₀≤))
-      (highest-share n n≤))
-    where
-      n≥0 : whole 0 ≼ whole n
-      n≥0 = whole-not-negative n
+pub concrete-near : (n κ₀ g₀ : ℕ) (κ g : Fraction) → n ≤ highestStress → Rounded (whole kappaError) κ₀ κ → Rounded (whole 1) g₀ g
+    → Within concreteError (whole (ticksConcreteStress n κ₀ g₀)) (concreteStress (whole n) κ g)
+concrete-near n κ₀ g₀ κ g n≤ κ-close g-close =
+    rounded-difference one-below (rounded-part n kappaUnit concreteError (lit< tt) κ-close (kappa-share n n≤)) g-close

@@ -1,31 +1,35 @@
--- The loss to creep, in ticks and in fractions. W = U·share/T is off by 130 at most: a floor, the floor in U, and the share's unit
--- times U/T, which is 128 at most. The loss W·c/T is then off by 130 times c/T, which is 4 at most, and by W/T times the 9/8 in c, and
--- by its own floor: 665 in all, and 700 leaves room. Its slope is U·share/T·κ/2^56, which the member's check U·κ ≤ 2^56 bounds by 1 in rounded
--- numbers and so by 17/16 in fractions. Assumes nothing.
+-- The loss to creep, W·c/T with W = U·share/T, in ticks and in fractions. It is off by what W is off by, times c/T, by what c is off
+-- by, times W/T, and by its own division. Its slope is U·share/T·κ/2^56, which the member's check U·κ ≤ 2^56 bounds by 1 in rounded
+-- numbers, and so by a little more in fractions. Assumes nothing.
 use mathlib.Core.Path.{refl}
 use mathlib.Core.List.{[], _∷_}
-use Prim.Native.Nat.{ℕ, _+_, _*_, _/_, _^_, _≤_}
-use native.Mathlib.Omega.{arith}
+use Prim.Native.Nat.{ℕ, _+_, _*_, _/_, _≤_}
 use lib.Dec.{lit<, lit≤}
-use Rattle.fraction.specs.Fraction.{Fraction, whole, _⊕_, _⊗_, _≈_, _≼_, Within}
-use Rattle.fraction.proofs.Laws.{≈-refl, ≈-sym, _⨾_, ≼-trans, ⊗-comm, ⊗-cong, ⊗-not-negative, whole-⊗}
+use Rattle.fraction.specs.Fraction.{Fraction, whole, _⊕_, _⊗_, _≼_, Within}
+use Rattle.fraction.specs.Equality.{_≈_}
+use Rattle.fraction.proofs.Laws.{≈-refl, ≈-sym, _⨾_, ≼-trans, ⊗-cong, ⊗-not-negative, whole-⊗}
 use Rattle.fraction.proofs.Certificate.{num, _⊞_, _⊠_, _⊑_, _≐_, _⊛_, _⊢_, follows, identity}
 use Rattle.fraction.proofs.Floors.{whole-order, whole-not-negative}
-use Rattle.fraction.proofs.Distances.{within-sym, within-trans, within-weaken, within-resp-≈, within-scaled, within-product}
+use Rattle.fraction.proofs.Distances.{within-weaken}
 use Rattle.fraction.proofs.Slopes.{SlowTo, hinge, slow-resp-≈, scaled-hinge-slow-to}
-use Rattle.tables.specs.Tables.{T}
-use Rattle.checks.specs.Rows.{mostKappa, mostCreepOfKappa}
-use Rattle.steps.specs.Steps.{creepLoss as ticksCreepLoss, concreteStress as ticksConcreteStress}
-use Rattle.tolerance.specs.Quotients.{_÷_}
-use Rattle.tolerance.specs.Steps.{concreteStress, creepLoss}
+use Rattle.ticks.specs.Ticks.{T}
+use Rattle.fields.specs.Limits.{mostKappa, mostCreepOfKappa}
+use Rattle.member.specs.Facts.{mostCreep}
+use Rattle.formulas.specs.Steps.{creepLoss as ticksCreepLoss, concreteStress as ticksConcreteStress}
+use Rattle.tolerance.specs.Formulas.{_÷_, concreteStress, creepLoss}
 use Rattle.tolerance.proofs.Quotients.{quotient-not-negative}
-use Rattle.tolerance.proofs.Rounded.{Rounded, rounded-within, rounded-product, rounded-not-negative}
-use Rattle.tolerance.proofs.Concrete.{highestStress, highestConcrete, kappaUnit, kappa-unit-not-negative}
-use Rattle.tolerance.proofs.Concrete.{concrete-is-hinge, concrete-not-negative, concrete-near, concrete-top}
+use Rattle.tolerance.proofs.Rounded.{Rounded, product-near, rounded-not-negative}
+use Rattle.tolerance.proofs.Shares.{Share, partError, constant-top, part-near}
+use Rattle.tolerance.proofs.Concrete.{highestStress, highestConcrete, kappaError, concreteError, perKappaUnit}
+use Rattle.tolerance.proofs.Concrete.{kappa-unit-not-negative, concrete-is-hinge, concrete-top, concrete-near}
 
--- what U does not exceed
-abbrev pub highestCreep : ℕ
-highestCreep = 2 ^ 31
+-- what W costs at the highest c, 447, what c costs at the highest W, 135, and a division; rounded up
+abbrev pub creepError : ℕ
+creepError = 700
+
+-- one, and as much as the roundings in U·κ can be over it
+abbrev pub creepSlope : Fraction
+creepSlope = 17 ÷ 16
 
 -- 1 / T
 abbrev shareUnit : Fraction
@@ -55,116 +59,72 @@ module _ (u share : Fraction) (u≥0 : whole 0 ≼ u) (share≥0 : whole 0 ≼ s
 
 -- ---- ticks and fractions
 
--- U in units of T
-creep-per-unit : (u₀ : ℕ) → u₀ ≤ highestCreep → whole u₀ ⊗ shareUnit ≼ whole 128
-unfolding _÷_ whole _⊗_
-creep-per-unit u₀ h = record { at-most = omega arith }
-
--- the floor of the loss; 130 times c/T; W/T times 9/8
-creep-room : whole 1 ⊕ shareUnit ⊗ (whole 130 ⊗ whole highestConcrete ⊕ whole highestCreep ⊗ (9 ÷ 8)) ≼ whole 700
+creep-room : whole 1 ⊕ shareUnit ⊗ (whole (partError mostCreep) ⊗ whole highestConcrete ⊕ whole (mostCreep + 1) ⊗ concreteError)
+    ≼ whole creepError
 unfolding _÷_ whole _⊕_ _⊗_
 creep-room = record { at-most = lit≤ tt }
 
-module _ (u₀ d : ℕ) (u share : Fraction) (u₀≤ : u₀ ≤ highestCreep) (d≤T : d ≤ T) (u-close : Rounded (whole 1) u₀ u)
-    (share-near : Within (whole 1) (whole d) share) (share≥0 : whole 0 ≼ share) (share≤T : share ≼ whole T) where
-  creep-to-floor : Rounded (whole 1) (u₀ * d / T) (creepTo (whole u₀) (whole d))
-  creep-to-floor = rounded-product u₀ d T (lit< tt)
-
-  -- W: 1 for its floor, 1 for the floor in U, 128 for the share
-  creep-to-near : Within (whole 130) (whole (u₀ * d / T)) (creepTo u share)
-  creep-to-near = record {
-    above = follows (u ∷ share ∷ shareUnit ∷ whole u₀ ∷ whole d ∷ whole (u₀ * d / T) ∷ [])
-        (λ U S Q U₀ D W.
-        W ⊑ U₀ ⊠ D ⊠ Q ∷ (num 0 ⊑ U₀) ⊛ (num 0 ⊑ Q) ⊛ (D ⊑ S ⊞ num 1) ∷ (num 0 ⊑ S) ⊛ (num 0 ⊑ Q) ⊛ (U₀ ⊑ U)
-        ∷ U₀ ⊠ Q ⊑ num 128 ∷ num 128 ⊑ num 130 ∷ [] ⊢ W ⊑ U ⊠ S ⊠ Q ⊞ num 130) tt
-        (creep-to-floor .least) ((u₀≥0, share-unit-not-negative), share-near .above)
-        ((share≥0, share-unit-not-negative), u-close .least) (creep-per-unit u₀ u₀≤) (whole-order (lit≤ tt));
-    below = follows (u ∷ share ∷ shareUnit ∷ whole T ∷ whole u₀ ∷ whole d ∷ whole (u₀ * d / T) ∷ [])
-        (λ U S Q Ts U₀ D W.
-        (num 0 ⊑ S) ⊛ (num 0 ⊑ Q) ⊛ (U ⊑ U₀ ⊞ num 1) ∷ (num 0 ⊑ Q) ⊛ (S ⊑ Ts) ∷ Ts ⊠ Q ≐ num 1
-        ∷ (num 0 ⊑ U₀) ⊛ (num 0 ⊑ Q) ⊛ (S ⊑ D ⊞ num 1) ∷ U₀ ⊠ D ⊠ Q ⊑ W ⊞ num 1 ∷ U₀ ⊠ Q ⊑ num 128 ∷ []
-        ⊢ U ⊠ S ⊠ Q ⊑ W ⊞ num 130) tt
-        ((share≥0, share-unit-not-negative), u-close .greatest) (share-unit-not-negative, share≤T) unit-of-shares
-        ((u₀≥0, share-unit-not-negative), share-near .below) (creep-to-floor .greatest) (creep-per-unit u₀ u₀≤);
-  }
-    where
-      u₀≥0 : whole 0 ≼ whole u₀
-      u₀≥0 = whole-not-negative u₀
-
-  -- W is U at most
-  creep-to-top : whole (u₀ * d / T) ≼ whole highestCreep
-  creep-to-top = ≼-trans (creep-to-floor .least)
-      (≼-trans (creep-to-below (whole u₀) (whole d) (whole-not-negative u₀) (whole-not-negative d) (whole-order d≤T))
-      (whole-order u₀≤))
-
-  module _ (n κ₀ g₀ : ℕ) (κ g : Fraction) (n≤ : n ≤ highestStress) (κ₀≤ : κ₀ ≤ mostKappa) (κ-close : Rounded (whole 2) κ₀ κ)
-      (g-close : Rounded (whole 1) g₀ g) where
-    -- W₀ c₀ − W c is (W₀ − W) c and W₀ (c₀ − c) together
-    pub creep-near : Within (whole 700) (whole (ticksCreepLoss u₀ d (ticksConcreteStress n κ₀ g₀)))
-        (creepLoss u share (concreteStress (whole n) κ g))
-    creep-near =
-        let c₀ = ticksConcreteStress n κ₀ g₀ in
-        let c = concreteStress (whole n) κ g in
-        let w₀ = u₀ * d / T in
-        within-weaken creep-room
-        (within-trans
-        (rounded-within (whole-not-negative 1) (rounded-product w₀ c₀ T (lit< tt)))
-        (within-resp-≈ (⊗-comm shareUnit (whole w₀ ⊗ whole c₀)) (⊗-comm shareUnit (creepTo u share ⊗ c))
-        (within-scaled shareUnit share-unit-not-negative
-        (within-sym
-        (within-product (whole highestConcrete) (whole highestCreep)
-        (concrete-not-negative (whole n) κ g) (concrete-top n κ₀ g₀ κ g n≤ κ-close g-close κ₀≤)
-        (whole-not-negative w₀) creep-to-top
-        (within-sym creep-to-near) (within-sym (concrete-near n κ₀ g₀ κ g n≤ κ-close g-close)))))))
+pub creep-near : {u₀ d n κ₀ g₀ : ℕ} {u share κ g : Fraction} → Rounded (whole 1) u₀ u → u₀ ≤ mostCreep → Share d share
+    → n ≤ highestStress → κ₀ ≤ mostKappa → Rounded (whole kappaError) κ₀ κ → Rounded (whole 1) g₀ g
+    → Within (whole creepError) (whole (ticksCreepLoss u₀ d (ticksConcreteStress n κ₀ g₀)))
+    (creepLoss u share (concreteStress (whole n) κ g))
+creep-near {u₀} {d} {n} {κ₀} {g₀} {u} {share} {κ} {g} u-close u₀≤ done n≤ κ₀≤ κ-close g-close =
+    let u≥0 = rounded-not-negative u-close in
+    within-weaken creep-room
+    (product-near (u₀ * d / T) (ticksConcreteStress n κ₀ g₀) T highestConcrete (mostCreep + 1) (lit< tt)
+    (concrete-top n κ₀ g₀ n≤ κ₀≤)
+    (creep-to-not-negative u share u≥0 (done .not-negative))
+    (≼-trans (creep-to-below u share u≥0 (done .not-negative) (done .most)) (constant-top u-close u₀≤))
+    (part-near u-close u₀≤ done) (concrete-near n κ₀ g₀ κ g n≤ κ-close g-close))
 
 -- ---- its slope
 
 -- (U₀ + 1) (κ₀ + 2) of rounded U₀ and κ₀
 abbrev highestProduct : ℕ
-highestProduct = mostCreepOfKappa + 2 * highestCreep + mostKappa + 2
+highestProduct = mostCreepOfKappa + kappaError * mostCreep + mostKappa + kappaError
 
 -- that over 2^56
-slope-room : whole highestProduct ⊗ (shareUnit ⊗ kappaUnit) ≼ 17 ÷ 16
+slope-room : whole highestProduct ⊗ (shareUnit ⊗ perKappaUnit) ≼ creepSlope
 unfolding _÷_ whole _⊗_
 slope-room = record { at-most = lit≤ tt }
 
-module _ (u₀ κ₀ : ℕ) (u κ share g : Fraction) (u-close : Rounded (whole 1) u₀ u) (κ-close : Rounded (whole 2) κ₀ κ)
-    (u₀≤ : u₀ ≤ highestCreep) (κ₀≤ : κ₀ ≤ mostKappa) (u₀κ₀≤ : u₀ * κ₀ ≤ mostCreepOfKappa)
+module _ (u₀ κ₀ : ℕ) (u κ share g : Fraction) (u-close : Rounded (whole 1) u₀ u) (κ-close : Rounded (whole kappaError) κ₀ κ)
+    (u₀≤ : u₀ ≤ mostCreep) (κ₀≤ : κ₀ ≤ mostKappa) (u₀κ₀≤ : u₀ * κ₀ ≤ mostCreepOfKappa)
     (share≥0 : whole 0 ≼ share) (share≤T : share ≼ whole T) where
   product-top : u ⊗ κ ≼ whole highestProduct
   product-top = follows (u ∷ κ ∷ whole u₀ ∷ whole κ₀ ∷ whole (u₀ * κ₀) ∷ [])
       (λ U K U₀ K₀ P.
-      (num 0 ⊑ K) ⊛ (U ⊑ U₀ ⊞ num 1) ∷ (num 0 ⊑ U₀) ⊛ (K ⊑ K₀ ⊞ num 2) ∷ K ⊑ K₀ ⊞ num 2 ∷ U₀ ⊠ K₀ ≐ P ∷ P ⊑ num mostCreepOfKappa
-      ∷ (num 0 ⊑ num 2) ⊛ (U₀ ⊑ num highestCreep) ∷ K₀ ⊑ num mostKappa ∷ []
+      (num 0 ⊑ K) ⊛ (U ⊑ U₀ ⊞ num 1) ∷ (num 0 ⊑ U₀) ⊛ (K ⊑ K₀ ⊞ num kappaError) ∷ K ⊑ K₀ ⊞ num kappaError
+      ∷ U₀ ⊠ K₀ ≐ P ∷ P ⊑ num mostCreepOfKappa ∷ (num 0 ⊑ num kappaError) ⊛ (U₀ ⊑ num mostCreep) ∷ K₀ ⊑ num mostKappa ∷ []
       ⊢ U ⊠ K ⊑ num highestProduct) tt
       (rounded-not-negative κ-close, u-close .greatest) (whole-not-negative u₀, κ-close .greatest) (κ-close .greatest)
-      (≈-sym (whole-⊗ u₀ κ₀)) (whole-order u₀κ₀≤) (whole-not-negative 2, whole-order u₀≤) (whole-order κ₀≤)
+      (≈-sym (whole-⊗ u₀ κ₀)) (whole-order u₀κ₀≤) (whole-not-negative kappaError, whole-order u₀≤) (whole-order κ₀≤)
 
   -- W/T times κ/2^32
-  slope-top : creepTo u share ⊗ shareUnit ⊗ (κ ⊗ kappaUnit) ≼ 17 ÷ 16
+  slope-top : creepTo u share ⊗ shareUnit ⊗ (κ ⊗ perKappaUnit) ≼ creepSlope
   slope-top = ≼-trans
-      (follows (u ∷ κ ∷ creepTo u share ∷ shareUnit ∷ kappaUnit ∷ whole highestProduct ∷ [])
+      (follows (u ∷ κ ∷ creepTo u share ∷ shareUnit ∷ perKappaUnit ∷ whole highestProduct ∷ [])
       (λ U K W Q R Z.
       (num 0 ⊑ Q) ⊛ (num 0 ⊑ R) ⊛ (num 0 ⊑ K) ⊛ (W ⊑ U) ∷ (num 0 ⊑ Q) ⊛ (num 0 ⊑ R) ⊛ (U ⊠ K ⊑ Z) ∷ []
       ⊢ W ⊠ Q ⊠ (K ⊠ R) ⊑ Z ⊠ (Q ⊠ R)) tt
       ((units≥0, rounded-not-negative κ-close), w≤u) (units≥0, product-top))
       slope-room
     where
-      units≥0 : (whole 0 ≼ shareUnit) × (whole 0 ≼ kappaUnit)
+      units≥0 : (whole 0 ≼ shareUnit) × (whole 0 ≼ perKappaUnit)
       units≥0 = (share-unit-not-negative, kappa-unit-not-negative)
 
       w≤u : creepTo u share ≼ u
       w≤u = creep-to-below u share (rounded-not-negative u-close) share≥0 share≤T
 
-  pub creep-slow : (most : Fraction) → SlowTo most (17 ÷ 16) (λ y. creepLoss u share (concreteStress y κ g))
+  pub creep-slow : (most : Fraction) → SlowTo most creepSlope (λ y. creepLoss u share (concreteStress y κ g))
   creep-slow most x y y≤x x≤most = slow-resp-≈ (loss-is-hinge x) (loss-is-hinge y)
-      (scaled-hinge-slow-to most (creepTo u share ⊗ shareUnit) (κ ⊗ kappaUnit) g (whole 0) (17 ÷ 16)
+      (scaled-hinge-slow-to most (creepTo u share ⊗ shareUnit) (κ ⊗ perKappaUnit) g (whole 0) creepSlope
       (⊗-not-negative (creep-to-not-negative u share (rounded-not-negative u-close) share≥0) share-unit-not-negative)
       (⊗-not-negative (rounded-not-negative κ-close) kappa-unit-not-negative)
       slope-top x y y≤x x≤most)
     where
       loss-is-hinge : (z : Fraction) →
-          creepTo u share ⊗ shareUnit ⊗ hinge (κ ⊗ kappaUnit) g (whole 0) z ≈ creepLoss u share (concreteStress z κ g)
+          creepTo u share ⊗ shareUnit ⊗ hinge (κ ⊗ perKappaUnit) g (whole 0) z ≈ creepLoss u share (concreteStress z κ g)
       loss-is-hinge z =
           ⊗-cong ≈-refl (concrete-is-hinge z κ g)
           ⨾ identity (creepTo u share ∷ shareUnit ∷ concreteStress z κ g ∷ []) (λ W Q C. W ⊠ Q ⊠ C ≐ W ⊠ C ⊠ Q) tt

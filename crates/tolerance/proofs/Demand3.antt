@@ -1,149 +1,165 @@
--- Demand 3 of document 01, proved of every accepted run. The two lists of stresses are put together from the path, slip, early
--- relaxation, shortening and the ages, near each other after every step; the two tolerances are one lemma, at the allowances of 1 and
--- of 40 psi a step. That no stress rises, that the losses and the last stress add up to the jacking stress, and that the numbers are
--- those reported, is read off the run. Assumes nothing.
+-- Demand 3 of document 01, proved of every accepted run. Along the path both stresses come from the jacking stress, slip is one step
+-- more, and the steps after slip keep near from there on; the two tolerances are one lemma, at the allowances of 1 and of 40 psi a
+-- step. That no stress rises, that the losses and the last stress add up to the jacking stress, and that the numbers are those
+-- reported, is read off the run. Assumes nothing.
 use mathlib.Core.Path.{_≡_, _∙_}
 use mathlib.Core.List.{List, _∷_}
 use Prim.Native.Nat.{ℕ, suc, _+_, _-_, _*_, _≤_}
-use native.Mathlib.Nat.{le-of-eq, mul-le-mul-right}
+use native.Mathlib.Nat.{le-refl, le-trans, min-le-left, mul-le-mul-left, mul-le-mul-right}
 use native.Mathlib.Omega.{arith}
-use lib.ListN.{length, getD, take, drop}
+use lib.Dec.{lit≤}
+use lib.ListN.{length, getD, take, length-take}
 use lib.Seq.{take-all}
-use Rattle.fraction.specs.Fraction.{Fraction}
+use Rattle.fraction.specs.Fraction.{whole, larger, Within}
+use Rattle.fraction.proofs.Laws.{≈-sym, ≼-trans, ≼-of-≈, whole-⊕, zero-⊕, larger-left, larger-right}
 use Rattle.fraction.proofs.Floors.{whole-order}
 use Rattle.fraction.proofs.Distances.{within-weaken}
-use Rattle.fields.specs.Layout.{mostSegments, mostAges, headFields, perSegment}
-use Rattle.fields.specs.Quantities.{Age, segmentsOf, agesOf, transfer, ownWeightMoment, wobble, curvature}
-use Rattle.fields.proofs.Laws.{ages-length}
-use Rattle.member.specs.Friction.{pathFriction as ticksFriction}
-use Rattle.member.specs.Member.{memberOf}
+use Rattle.ticks.specs.Ticks.{T}
+use Rattle.fields.specs.Outcomes.{Gives}
+use Rattle.fields.specs.Quantities.{Quantities}
+use Rattle.fields.specs.Limits.{mostSegments, mostAges}
+use Rattle.member.specs.Constants.{pathFriction, jacked, stressAlong as ticksAlong}
+use Rattle.member.specs.Member.{memberOf, frictionOf}
 use Rattle.member.specs.Facts.{Facts}
-use Rattle.stages.specs.declared.BeforeAges.{BeforeAges}
-use Rattle.stages.specs.Ages.{Start}
-use Rattle.stages.specs.Run.{reported, startOf, memberResult}
-use Rattle.tolerance.specs.Stresses.{jacked, afterSegments}
-use Rattle.tolerance.specs.Stresses.{coreAfterSegments, coreAfterSlip, coreAfterEarly, exactStresses, coreStresses}
-use Rattle.tolerance.specs.Stresses.{reported as stressesOfRows}
-use Rattle.tolerance.specs.Demand.{Close, Falls, Linked, Demand3, stepsOf, lossesBefore, lossesOfRows}
-use Rattle.tolerance.proofs.Path.{friction-falls}
-use Rattle.tolerance.proofs.Bounds.{known, low}
+use Rattle.stages.specs.declared.before.BeforeAges.{BeforeAges}
+use Rattle.stages.specs.Run.{Report, memberResult}
+use Rattle.tolerance.specs.Method.{Choice, stressAlong, afterDeflector}
+use Rattle.tolerance.specs.Demand.{stepsOf, exactAfterSlip, exactStresses, coreAfterSlip, coreAfterDeflector, coreAfterEarly}
+use Rattle.tolerance.specs.Demand.{stressesOf, coreStresses, Close, Falls, Linked, Demand3, lossesBefore, lossesOfRows}
+use Rattle.tolerance.proofs.Path.{pathError, friction-of-part, segments-fit-take, friction-leaves, path-close, stress-falls}
+use Rattle.tolerance.proofs.Concrete.{highestStress}
+use Rattle.tolerance.proofs.Bounds.{low, low-top}
 use Rattle.tolerance.proofs.Allowance.{Allowance, narrow-allowance, wide-allowance}
-use Rattle.tolerance.proofs.Chains.{Chain, one-step, chain-at, chain-lengths, chain-each, falls-each, each-length-then, each-then}
-use Rattle.tolerance.proofs.Run.{Began, AgesRun, run, ages-fall, ages-close-up, ages-end, rows-count, rows-length}
-use Rattle.tolerance.proofs.Beginning.{path-length, jacked-is, friction-is, friction-leaves}
-use Rattle.tolerance.proofs.Beginning.{along-path, after-slip, after-deflector, after-early, after-shortening}
-use Rattle.tolerance.proofs.Ages.{ages-chain}
+use Rattle.tolerance.proofs.Chains.{Chain, one-step, chain-at, chain-lengths, chain-each, falls-each}
+use Rattle.tolerance.proofs.Chains.{each-length-then, each-then}
+use Rattle.tolerance.proofs.Run.{Began, AgesRun, run, ages-fall, ages-close-up, ages-end, rows-count, stresses-count}
+use Rattle.tolerance.proofs.Distance.{slip-keeps-distance, deflector-keeps-distance}
+use Rattle.tolerance.proofs.Near.{slipError, after-slip-near}
+use Rattle.tolerance.proofs.Closeness.{step-close, deflected, after-slip-close}
 
-module _ {segments ages report scratch : ℕ} {fields : List ℕ} (facts : Facts segments ages fields report scratch)
-    (segments≤ : segments ≤ mostSegments) (ages≤ : ages ≤ mostAges) {before : BeforeAges} {rows : List ℕ} {last : ℕ}
-    (began : Began (memberOf segments ages fields) before)
-    (ran : AgesRun (memberOf segments ages fields) (startOf (memberOf segments ages fields) (before .stress))
-    (agesOf segments ages fields) rows last) where
-  -- the ages of the run, from transfer and the own weight on
-  abbrev list : List Age
-  list = agesOf segments ages fields
-
-  abbrev begin : Start
-  begin = record { hour = transfer fields; stress = before .stress; moments = ownWeightMoment fields }
-
-  aged : AgesRun (memberOf segments ages fields) begin list rows last
-  unfolding memberOf
-  aged = ran
-
-  list-length : length list ≡ ages
-  list-length = ages-length ages (drop (headFields + perSegment * segments) fields)
+module _ {q : Quantities} {report scratch : ℕ} (facts : Facts q report scratch) (few-segments : length (q .path) ≤ mostSegments)
+    (few-ages : length (q .ages) ≤ mostAges) {given : Report} (began : Began q (given .before))
+    (ran : AgesRun q (q .ownWeightMoment) (q .transfer) (given .before .stress) (q .ages) (given .rows) (given .last)) where
+  abbrev before : BeforeAges
+  before = given .before
 
   -- the core's stresses after the path
   abbrev rest : List ℕ
-  rest = coreAfterSlip fields before ∷ coreAfterEarly fields before ∷ before .stress ∷ stressesOfRows ages rows
+  rest = coreAfterSlip q before ∷ coreAfterEarly q before ∷ before .stress ∷ stressesOf (given .rows)
 
-  rest-length : length rest ≡ ages + 3
-  rest-length = omega (arith, rows-length ages rows)
+  -- the core's stress after so many segments
+  abbrev along : ℕ → ℕ
+  along j = ticksAlong q (take j (q .path))
 
-  count : length (coreStresses segments ages fields before rows) ≡ stepsOf segments ages
-  count = omega (arith, each-length-then (coreAfterSegments segments fields) segments rest, rest-length)
+  count : length (coreStresses q given) ≡ stepsOf q
+  count = omega (arith, each-length-then along (length (q .path)) rest, stresses-count (given .rows), rows-count ran)
 
   -- ---- near after every step
 
-  module _ {δ step : ℕ} {log : ℕ → Fraction} (allowed : Allowance δ step log) where
-    chain : Chain step 0 (coreStresses segments ages fields before rows) (exactStresses log segments ages fields)
+  jacked-low : jacked q ≤ highestStress
+  jacked-low = low-top facts (jacked q) (low facts (jacked q) (le-refl (jacked q)))
+
+  friction-fits : frictionOf q ≤ T
+  friction-fits = le-trans (facts .friction-most) (lit≤ tt)
+
+  part-fits : (j : ℕ) → pathFriction (q .wobble) (q .curvature) (take j (q .path)) ≤ T
+  part-fits j = le-trans (friction-of-part (q .wobble) (q .curvature) (q .path) j) friction-fits
+
+  module _ {δ step : ℕ} {choice : Choice} (allowed : Allowance δ step choice) where
+    -- a segment, and slip, are well within a step each
+    segment-covered : pathError 1 ≤ step
+    segment-covered = let covers = allowed .covers in omega arith
+
+    slip-covered : (segments : ℕ) → slipError + pathError segments ≤ suc segments * step
+    slip-covered segments = omega (arith, mul-le-mul-left (suc segments) segment-covered)
+
+    along-path : (j : ℕ)
+        → Within (whole (suc j * step)) (whole (along (suc j))) (stressAlong choice q (take (suc j) (q .path)))
+    along-path j =
+        let part = take (suc j) (q .path) in
+        let most : length part ≤ suc j = rw length-take (min-le-left (suc j) (length (q .path))) in
+        within-weaken (whole-order (omega (arith, mul-le-mul-left (suc j) segment-covered)))
+        (path-close q part (part-fits (suc j)) choice jacked-low (segments-fit-take (suc j) (facts .segments-fit)))
+
+    after-slip : Within (whole (suc (length (q .path)) * step)) (whole (coreAfterSlip q before)) (exactAfterSlip choice q)
+    after-slip =
+        let segments = length (q .path) in
+        let x = ticksAlong q (q .path) in
+        let y = stressAlong choice q (q .path) in
+        rw (began .friction, began .slip)
+        (within-weaken
+        (≼-trans (≼-of-≈ (≈-sym (whole-⊕ slipError (pathError segments)))) (whole-order (slip-covered segments)))
+        (step-close (slip-keeps-distance choice q (larger (whole x) y)) (larger-left (whole x) y) (larger-right (whole x) y)
+        (after-slip-near facts choice x (omega (arith, began .closes, began .friction, began .slip)))
+        (path-close q (q .path) friction-fits choice jacked-low (facts .segments-fit))))
+
+    after-deflector : Within (whole (suc (length (q .path)) * step)) (whole (coreAfterDeflector q before))
+        (afterDeflector choice q (exactAfterSlip choice q))
+    after-deflector =
+        let x = whole (coreAfterSlip q before) in
+        let y = exactAfterSlip choice q in
+        within-weaken (≼-of-≈ (zero-⊕ (whole (suc (length (q .path)) * step))))
+        (step-close (deflector-keeps-distance choice q (larger x y)) (larger-left x y) (larger-right x y)
+        (deflected facts allowed began ran) after-slip)
+
+    chain : Chain step 0 (coreStresses q given) (exactStresses choice q)
     chain =
-        let shortened = after-shortening facts began allowed (omega arith) in
-        chain-each step segments (coreAfterSegments segments fields)
-        (λ j. afterSegments log fields (take j (segmentsOf segments fields))) (along-path facts began allowed)
-        (one-step (after-slip facts began allowed)
-        (one-step (after-early facts began allowed (omega arith))
-        (one-step shortened
-        (rw list-length at
-        (ages-chain segments ages fields (known facts) allowed aged (facts .ages-rise)
-        (low (known facts) (before .stress) (omega (arith, jacked-is facts began)))
-        (suc (suc (suc segments))) _ (omega (arith, list-length)) shortened)))))
+        chain-each step (length (q .path)) along (λ j. stressAlong choice q (take j (q .path))) along-path
+        (one-step after-slip
+        (after-slip-close facts allowed began ran (suc (length (q .path))) (exactAfterSlip choice q) (omega arith) after-slip))
 
-    exact-count : length (exactStresses log segments ages fields) ≡ stepsOf segments ages
-    exact-count = chain-lengths chain ∙ count
-
-    close : Close step log segments ages fields before rows
+    close : Close step choice q given
     close = record {
       core-count = count;
-      exact-count = exact-count;
+      exact-count = chain-lengths chain ∙ count;
       steps = λ k h. within-weaken (whole-order (mul-le-mul-right step (omega arith))) (chain-at chain k (omega (arith, count)));
-      deflector = after-deflector facts began allowed;
+      deflector = after-deflector;
     }
 
   -- ---- the run's own numbers
 
-  start-of-path : coreAfterSegments segments fields 0 ≡ jacked fields
-  unfolding ticksFriction
+  start-of-path : along 0 ≡ jacked q
+  unfolding pathFriction
   start-of-path = omega arith
 
-  end-of-path : coreAfterSegments segments fields segments ≡ jacked fields - before .friction
-  end-of-path =
-      rw (
-        friction-is facts began,
-        take-all segments (segmentsOf segments fields) (le-of-eq (path-length segments (drop headFields fields))),
-      )
+  end-of-path : along (length (q .path)) ≡ jacked q - before .friction
+  end-of-path = rw (began .friction, take-all (length (q .path)) (q .path) (le-refl (length (q .path))))
 
-  rest-falls : Falls (jacked fields - before .friction) rest
+  rest-falls : Falls (jacked q - before .friction) rest
   unfolding Falls
-  rest-falls =
-      let adds-up = jacked-is facts began in
-      (omega arith, (omega arith, (omega arith, rw list-length at (ages-fall aged))))
+  rest-falls = let adds-up = began .closes in (omega arith, (omega arith, (omega arith, ages-fall ran)))
 
-  falls : Falls (jacked fields) (coreStresses segments ages fields before rows)
-  falls = rw start-of-path at
-      (falls-each segments (coreAfterSegments segments fields) rest
-      (λ j. friction-falls (wobble fields) (curvature fields) (jacked fields) (segmentsOf segments fields) j (suc j) (omega arith))
-      (rw end-of-path rest-falls))
+  falls : Falls (jacked q) (coreStresses q given)
+  falls =
+      rw start-of-path at
+      (falls-each (length (q .path)) along rest (λ j. stress-falls q j (suc j) (omega arith)) (rw end-of-path rest-falls))
 
-  closes : jacked fields ≡ last + lossesBefore before + lossesOfRows ages rows
-  closes = let ages-add-up = rw list-length at (ages-close-up aged) in omega (arith, jacked-is facts began)
+  closes : jacked q ≡ given .last + lossesBefore before + lossesOfRows (given .rows)
+  closes = omega (arith, began .closes, ages-close-up ran)
 
-  reported-last : getD (coreStresses segments ages fields before rows) (segments + ages + 2) 0 ≡ last
+  reported-last : getD (coreStresses q given) (length (q .path) + length (q .ages) + 2) 0 ≡ given .last
   reported-last =
-      let place : segments + ages + 2 ≡ segments + suc (suc ages) = omega arith in
-      rw (place, each-then (coreAfterSegments segments fields) segments rest (suc (suc ages)) 0)
-      (rw list-length at (ages-end aged))
+      let place : length (q .path) + length (q .ages) + 2 ≡ length (q .path) + suc (suc (length (q .ages))) = omega arith in
+      rw (place, each-then along (length (q .path)) rest (suc (suc (length (q .ages)))) 0) (ages-end ran)
 
-  linked : Linked segments ages fields before rows last
+  linked : Linked q given
   linked = record {
-    path = λ j h. omega (arith, friction-leaves facts began j);
-    path-end = omega (arith, end-of-path, jacked-is facts began);
-    reply = omega (arith, jacked-is facts began);
-    rows-count = omega (arith, rows-count aged, list-length);
-    report = reported-last;
+    path = λ j h. omega (arith, friction-leaves q (take j (q .path)) (part-fits j));
+    path-end = omega (arith, began .friction, began .closes);
+    reply = omega (arith, began .closes);
+    rows-count = rows-count ran;
+    last = reported-last;
   }
 
-pub demand-3 : (segments ages : ℕ) (fields : List ℕ) (report scratch : ℕ) → segments ≤ mostSegments → ages ≤ mostAges
-    → Facts segments ages fields report scratch
-    → (before : BeforeAges) (rows : List ℕ) (last : ℕ)
-    → memberResult (memberOf segments ages fields) (agesOf segments ages fields) ≡ reported before rows last
-    → Demand3 segments ages fields before rows last
-demand-3 segments ages fields report scratch segments≤ ages≤ facts before rows last result =
-    let (began, ran) = run (memberOf segments ages fields) (agesOf segments ages fields) before rows last result in
+pub demand-3 : (q : Quantities) (report scratch : ℕ) → length (q .path) ≤ mostSegments → length (q .ages) ≤ mostAges
+    → Facts q report scratch
+    → (given : Report) → memberResult (memberOf q) (q .ages) ≡ Gives given → Demand3 q given
+demand-3 q report scratch few-segments few-ages facts given result =
+    let (began, ran) = run q given result in
     record {
-      narrow = close facts segments≤ ages≤ began ran narrow-allowance;
-      wide = λ log admissible. close facts segments≤ ages≤ began ran (wide-allowance admissible);
-      falls = falls facts segments≤ ages≤ began ran;
-      closes = closes facts segments≤ ages≤ began ran;
-      linked = linked facts segments≤ ages≤ began ran;
+      narrow = close facts few-segments few-ages began ran narrow-allowance;
+      wide = λ choice admissible. close facts few-segments few-ages began ran (wide-allowance admissible);
+      falls = falls facts few-segments few-ages began ran;
+      closes = closes facts few-segments few-ages began ran;
+      linked = linked facts few-segments few-ages began ran;
     }

@@ -10,8 +10,10 @@ pub mod Shortening
 pub mod Creep
 pub mod Bounds
 pub mod Allowance
-pub mod Chains
 pub mod Run
-pub mod Ages
-pub mod Beginning
+pub mod Chains
+pub mod Ends
+pub mod Distance
+pub mod Near
+pub mod Closeness
 pub mod Demand3

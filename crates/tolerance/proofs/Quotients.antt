@@ -1,13 +1,13 @@
 -- Laws of quotients without rounding: where the divisor is above 0, `a ÷ b` is the fraction a / b, and `inverse` turns a fraction
 -- round. Both replace a divisor of 0 by 1, which a divisor above 0 does not notice. Assumes nothing.
 use mathlib.Core.Path.{_≡_, sym, ap, _∙_}
-use Prim.Native.Nat.{ℕ, _+_, _-_, _*_, _/_, _≤_, _<_, max}
+use Prim.Native.Nat.{ℕ, _+_, _-_, _*_, _≤_, _<_, max}
 use native.Mathlib.Omega.{arith}
-use Rattle.fraction.specs.Fraction.{Fraction, over, whole, _⊗_, _≈_, _≼_, Within}
-use Rattle.fraction.proofs.Laws.{≈-sym, ≈-refl, ≼-trans, ≼-of-≈, ≼-resp-≈}
-use Rattle.fraction.proofs.Floors.{floor-within, over-order}
-use Rattle.fraction.proofs.Distances.{within-resp-≈}
-use Rattle.tolerance.specs.Quotients.{_÷_, inverse}
+use Rattle.fraction.specs.Fraction.{Fraction, whole, _⊗_, _≼_}
+use Rattle.fraction.specs.Equality.{over, _≈_}
+use Rattle.fraction.proofs.Laws.{≈-sym, ≼-trans, ≼-of-≈, ≼-resp-≈}
+use Rattle.fraction.proofs.Floors.{over-order}
+use Rattle.tolerance.specs.Formulas.{_÷_, inverse}
 
 -- a / b
 pub quotient : (a b : ℕ) (h : 0 < b) → a ÷ b ≈ over a b h
@@ -17,15 +17,6 @@ quotient a b h = record { equal = let e : max 1 b ≡ b = omega arith in rw e }
 pub quotient-not-negative : (a b : ℕ) → whole 0 ≼ a ÷ b
 unfolding _÷_ whole
 quotient-not-negative a b = record { at-most = omega arith }
-
--- a division rounded down loses less than 1
-pub floor-quotient : (a b : ℕ) → 0 < b → Within (whole 1) (whole (a / b)) (a ÷ b)
-floor-quotient a b h = within-resp-≈ ≈-refl (≈-sym (quotient a b h)) (floor-within a b h)
-
--- a/b is a times 1/b
-pub quotient-times : (a b : ℕ) → a ÷ b ≈ whole a ⊗ (1 ÷ b)
-unfolding _÷_ whole _⊗_
-quotient-times a b = record { equal = omega arith }
 
 pub quotient-most : (a b most : ℕ) → 0 < b → a ≤ most * b → a ÷ b ≼ whole most
 unfolding over whole

@@ -3,16 +3,19 @@
 -- division loses 1 at the most, and what it divides brings its own loss, scaled. Assumes nothing.
 use mathlib.Core.Path.{_≡_}
 use mathlib.Core.List.{[], _∷_}
-use Prim.Native.Nat.{ℕ, _+_, _*_, _/_, _-_, _<_, max}
+use Prim.Native.Nat.{ℕ, _+_, _*_, _/_, _-_, _≤_, _<_, max}
 use native.Mathlib.Nat.{mul-div-le, lt-mul-div-succ}
 use native.Mathlib.Omega.{arith}
 use lib.Dec.{lit<}
-use Rattle.fraction.specs.Fraction.{Fraction, over, whole, _⊕_, _⊖_, _⊗_, _≈_, _≼_, larger, Within}
+use Rattle.fraction.specs.Fraction.{Fraction, whole, _⊕_, _⊖_, _⊗_, _≼_, larger, Within}
+use Rattle.fraction.specs.Equality.{over, _≈_}
 use Rattle.fraction.proofs.Laws.{≈-refl, ≈-sym, _⨾_, ≼-trans, ≼-of-≈, ≼-resp-≈, ⊕-cong, ⊗-cong, ⊗-comm, whole-⊕}
 use Rattle.fraction.proofs.Certificate.{num, _⊞_, _⊟_, _⊠_, _⊑_, _⊛_, _⊢_, follows}
-use Rattle.fraction.proofs.Floors.{floor-below, floor-above, over-one, over-cancel, whole-not-negative, whole-monus}
-use Rattle.fraction.proofs.Distances.{within-below, within-resp-≈, within-larger-constant}
-use Rattle.tolerance.specs.Quotients.{_÷_, inverse}
+use Rattle.fraction.proofs.Floors.{whole-order, whole-not-negative, whole-difference, whole-monus, floor-below, floor-above}
+use Rattle.fraction.proofs.Floors.{over-one, over-cancel}
+use Rattle.fraction.proofs.Distances.{within-below, within-trans, within-resp-≈, within-scaled, within-product}
+use Rattle.fraction.proofs.Distances.{within-larger-constant}
+use Rattle.tolerance.specs.Formulas.{_÷_, inverse}
 use Rattle.tolerance.proofs.Quotients.{quotient, quotient-not-negative}
 
 -- n lies below x, by at most e
@@ -61,7 +64,7 @@ floor-rounded a b h = record {
 }
 
 -- a product over d, as the exact steps write it
-pub quotient-product : (a b d : ℕ) → 0 < d → (a * b) ÷ d ≈ whole a ⊗ whole b ⊗ (1 ÷ d)
+quotient-product : (a b d : ℕ) → 0 < d → (a * b) ÷ d ≈ whole a ⊗ whole b ⊗ (1 ÷ d)
 unfolding _÷_ whole _⊗_
 quotient-product a b d h = record { equal = let e : max 1 d ≡ d = omega arith in rw e (omega arith) }
 
@@ -92,9 +95,20 @@ rounded-part {f} {x} {m} a d e h r room = record {
     q≥0 = quotient-not-negative 1 d
 
 -- a product of whole numbers over d
-pub rounded-product : (a b d : ℕ) → 0 < d → Rounded (whole 1) (a * b / d) (whole a ⊗ whole b ⊗ (1 ÷ d))
+rounded-product : (a b d : ℕ) → 0 < d → Rounded (whole 1) (a * b / d) (whole a ⊗ whole b ⊗ (1 ÷ d))
 rounded-product a b d h = rounded-part a d (whole 1) h (rounded-exact (whole-not-negative 0) b)
     (follows (whole a ∷ 1 ÷ d ∷ []) (λ A Q. [] ⊢ num 1 ⊞ A ⊠ num 0 ⊠ Q ⊑ num 1) tt)
+
+-- a product over d of two numbers that are near their fractions, y and w: what y is off by costs that times w, and what w is off by
+-- that times y
+pub product-near : {e f y w : Fraction} (m n d b c : ℕ) → 0 < d → n ≤ b → whole 0 ≼ y → y ≼ whole c
+    → Within e (whole m) y → Within f (whole n) w
+    → Within (whole 1 ⊕ (1 ÷ d) ⊗ (e ⊗ whole b ⊕ whole c ⊗ f)) (whole (m * n / d)) (y ⊗ w ⊗ (1 ÷ d))
+product-near m n d b c h n≤b y≥0 y≤c near-y near-w =
+    within-trans (rounded-within (whole-not-negative 1) (rounded-product m n d h))
+    (within-resp-≈ (⊗-comm _ _) (⊗-comm _ _)
+    (within-scaled (1 ÷ d) (quotient-not-negative 1 d)
+    (within-product (whole b) (whole c) (whole-not-negative n) (whole-order n≤b) y≥0 y≤c near-y near-w)))
 
 -- the divisor times what a division gives: at most what is divided, and with the divisor once more at least that
 pub floor-product-below : (a b d : ℕ) → whole d ⊗ whole (a * b / d) ≼ whole a ⊗ whole b
@@ -120,6 +134,13 @@ rounded-difference {e} {x} {y} {m} {n} one r s =
       below = follows (e ∷ x ∷ y ∷ whole m ∷ whole n ∷ [])
           (λ E X Y M N. X ⊑ M ⊞ E ∷ N ⊑ Y ∷ [] ⊢ X ⊟ Y ⊑ M ⊟ N ⊞ E) tt (r .greatest) (s .least);
     }
+
+-- what a loss l leaves of n, and the loss without rounding
+pub taken-off : {e loss : Fraction} {n l : ℕ} → l ≤ n → Within e (whole l) loss → Within e (whole (n - l)) (whole n ⊖ loss)
+taken-off {e} {loss} {n} {l} fits near = within-resp-≈ (≈-sym (whole-difference fits)) ≈-refl (record {
+  above = follows (e ∷ loss ∷ whole n ∷ whole l ∷ []) (λ E A N L. A ⊑ L ⊞ E ∷ [] ⊢ N ⊟ L ⊑ N ⊟ A ⊞ E) tt (near .below);
+  below = follows (e ∷ loss ∷ whole n ∷ whole l ∷ []) (λ E A N L. L ⊑ A ⊞ E ∷ [] ⊢ N ⊟ A ⊑ N ⊟ L ⊞ E) tt (near .above);
+})
 
 -- ---- factors above 0
 

@@ -1,4 +1,4 @@
--- The shares of creep and shrinkage: the share in ticks beside the share without rounding, and the shrinkage of an interval.
+-- The shares of creep and shrinkage: the share in ticks beside the share without rounding, and the part of a constant by a share.
 -- Both shares are read on the same line between two rows, and the core divides once, so that it is short by less than 1. Without
 -- rounding a line does not fall where its second row is not below its first, and stays between the two; so no later share is
 -- smaller where the rows never fall, and that they do not is a test that computes, for either table. An interval's share is a
@@ -6,33 +6,30 @@
 use mathlib.Core.Path.{_≡_, refl}
 use mathlib.Core.Bool.{Bool, true, false, cond, _&&_}
 use mathlib.Core.List.{List, [], _∷_}
-use Prim.Native.Nat.{ℕ, _+_, _-_, _*_, _/_, _^_, _≤_, _<_}
+use Prim.Native.Nat.{ℕ, _+_, _-_, _*_, _/_, _≤_, _<_}
 use native.Mathlib.Nat.{le-refl, le-trans, mul-le-mul-left, mul-le-mul-right, sub-le}
 use native.Mathlib.Omega.{arith}
-use lib.Dec.{leb, ltb, eqb, leb→le, eqb→eq, lit<, lit≤, T as Holds}
+use lib.Dec.{leb, ltb, eqb, leb→le, eqb→eq, lit<, T as Holds}
 use lib.Ieee.Fits.{and-l, and-r}
 use borrow.Author.Tests.{ltb-true, ltb-false, le-ltb}
 use Rattle.fraction.specs.Fraction.{Fraction, whole, _⊕_, _⊖_, _⊗_, _≼_, Within}
-use Rattle.fraction.proofs.Laws.{≈-refl, ≈-sym, ≼-refl, ≼-trans, ≼-resp-≈, whole-⊕, ⊗-comm}
+use Rattle.fraction.proofs.Laws.{≈-refl, ≼-refl, ≼-trans, ≼-resp-≈, whole-⊕}
 use Rattle.fraction.proofs.Laws.{larger-is-left}
-use Rattle.fraction.proofs.Floors.{whole-order, order-of-whole, whole-not-negative, whole-monus}
-use Rattle.fraction.proofs.Certificate.{num, _⊞_, _⊟_, _⊑_, _⊢_, follows}
-use Rattle.fraction.proofs.Distances.{within-trans, within-weaken, within-resp-≈, within-scaled, within-product}
-use Rattle.fraction.proofs.Distances.{within-larger-constant}
+use Rattle.fraction.proofs.Floors.{whole-order, order-of-whole, whole-not-negative}
+use Rattle.fraction.proofs.Certificate.{num, _⊟_, _⊑_, _⊢_, follows}
+use Rattle.fraction.proofs.Distances.{within-weaken, within-resp-≈}
 use Rattle.tables.specs.declared.Row.{Row}
 use Rattle.coefficient.specs.declared.clocks.HoursSinceTransfer.{HoursSinceTransfer}
 use Rattle.coefficient.specs.declared.clocks.HoursSinceCuring.{HoursSinceCuring}
-use Rattle.tables.specs.Lines.{hundred, at, hundredths, weighed, reading, along as ticksAlong}
-use Rattle.tables.specs.Tables.{T, creepShareRows, shrinkageShareRows, rowsOf}
-use Rattle.tables.specs.Tables.{tableReading}
+use Rattle.tables.specs.Tables.{hundred, at, hundredths, weighed, reading, along as ticksAlong, creepShareRows, shrinkageShareRows}
+use Rattle.tables.specs.Tables.{rowsOf, tableReading}
+use Rattle.ticks.specs.Ticks.{T}
 use Rattle.tables.proofs.Weights.{by-way}
 use Rattle.coefficient.specs.Coefficients.{creepShare, shrinkageShare}
-use Rattle.steps.specs.Steps.{shrinkageLoss as ticksShrinkageLoss}
-use Rattle.tolerance.specs.Quotients.{_÷_}
-use Rattle.tolerance.specs.Coefficients.{along, shareOf}
-use Rattle.tolerance.specs.Steps.{shrinkageLoss}
-use Rattle.tolerance.proofs.Quotients.{quotient-order, quotient-most, quotient-not-negative}
-use Rattle.tolerance.proofs.Rounded.{Rounded, floor-rounded, rounded-product, rounded-within, rounded-not-negative}
+use Rattle.tolerance.specs.Formulas.{_÷_, along, shareOf}
+use Rattle.tolerance.proofs.Quotients.{quotient-order, quotient-most}
+use Rattle.tolerance.proofs.Rounded.{Rounded, floor-rounded, product-near, rounded-within, rounded-not-negative}
+use Rattle.tolerance.proofs.Rounded.{rounded-difference}
 
 -- ---- lines
 
@@ -214,19 +211,10 @@ pub record Share (d : ℕ) (D : Fraction) : Type 0 where
 -- the one without rounding
 difference-near : {a b : ℕ} {A B : Fraction} → Rounded (whole 1) a A → Rounded (whole 1) b B → B ≼ A
     → Within (whole 1) (whole (a - b)) (A ⊖ B)
-difference-near {a} {b} {A} {B} r s h =
-    within-resp-≈ (≈-sym (whole-monus a b)) (larger-is-left risen) (within-larger-constant (whole 0) apart)
-  where
-    risen : whole 0 ≼ A ⊖ B
-    risen = follows (A ∷ B ∷ []) (λ A B. B ⊑ A ∷ [] ⊢ num 0 ⊑ A ⊟ B) tt h
-
-    apart : Within (whole 1) (whole a ⊖ whole b) (A ⊖ B)
-    apart = record {
-      above = follows (whole a ∷ whole b ∷ A ∷ B ∷ []) (λ a b A B. a ⊑ A ∷ B ⊑ b ⊞ num 1 ∷ [] ⊢ a ⊟ b ⊑ A ⊟ B ⊞ num 1) tt
-          (r .least) (s .greatest);
-      below = follows (whole a ∷ whole b ∷ A ∷ B ∷ []) (λ a b A B. A ⊑ a ⊞ num 1 ∷ b ⊑ B ∷ [] ⊢ A ⊟ B ⊑ a ⊟ b ⊞ num 1) tt
-          (r .greatest) (s .least);
-    }
+difference-near {A = A} {B} r s h =
+    within-resp-≈ ≈-refl
+    (larger-is-left (follows (A ∷ B ∷ []) (λ A B. B ⊑ A ∷ [] ⊢ num 0 ⊑ A ⊟ B) tt h))
+    (rounded-difference ≼-refl r s)
 
 pub interval-share : (rows : List Row) → Holds (shareTable rows) → (x y : ℕ) → x ≤ y
     → Share (reading T rows y - reading T rows x) (shareOf rows y ⊖ shareOf rows x)
@@ -256,27 +244,25 @@ pub shrinkage-share : (life start end : HoursSinceCuring) → start .0 ≤ end .
 unfolding shrinkageShare tableReading rowsOf
 shrinkage-share life start end on = interval-share (shrinkageShareRows (life .0)) tt (start .0) (end .0) on
 
--- ---- shrinkage
+-- ---- a constant's part by a share: U·share/T, and shrinkage, S·share/T
 
--- S up to 4 T: the share is off by 1, which costs 4 and a little, S is off by 1, which costs 1, and the last division costs 1
-abbrev pub mostShrinkage : ℕ
-mostShrinkage = 2 ^ 26
+-- of a constant up to `most`: 1 that the share is off by, at the constant; 1 that the constant is off by, at a share up to T; and a
+-- division. The first is `most`/T, rounded up.
+abbrev pub partError : ℕ → ℕ
+partError most = most / T + 1 + 1 + 1
 
--- the floor of the loss; 1 of S times share/T; 1 of the share times S/T
-shrinkage-room : whole 1 ⊕ (1 ÷ T) ⊗ (whole 1 ⊗ whole T ⊕ whole (mostShrinkage + 1) ⊗ whole 1) ≼ whole 7
+part-room : (most : ℕ) → whole 1 ⊕ (1 ÷ T) ⊗ (whole 1 ⊗ whole T ⊕ whole (most + 1) ⊗ whole 1) ≼ whole (partError most)
 unfolding _÷_ whole _⊕_ _⊗_
-shrinkage-room = record { at-most = lit≤ tt }
+part-room most = record { at-most = omega arith }
 
-pub shrinkage-near : {constant d : ℕ} {S D : Fraction} → Rounded (whole 1) constant S → constant ≤ mostShrinkage → Share d D
-    → Within (whole 7) (whole (ticksShrinkageLoss constant d)) (shrinkageLoss S D)
-shrinkage-near {constant} {d} {S} {D} r small share =
-    within-weaken shrinkage-room
-    (within-trans (rounded-within one (rounded-product constant d T (lit< tt)))
-    (within-resp-≈ (⊗-comm (1 ÷ T) (whole constant ⊗ whole d)) (⊗-comm (1 ÷ T) (S ⊗ D))
-    (within-scaled (1 ÷ T) (quotient-not-negative 1 T)
-    (within-product (whole T) (whole (mostShrinkage + 1)) (whole-not-negative d) (whole-order (share .ticks))
-    (rounded-not-negative r) (≼-trans (r .greatest) (≼-resp-≈ (whole-⊕ constant 1) ≈-refl (whole-order (omega arith))))
-    (rounded-within one r) (share .near)))))
-  where
-    one : whole 0 ≼ whole 1
-    one = whole-not-negative 1
+-- what is not above a constant, rounded, is not above the constant by more than 1
+pub constant-top : {constant most : ℕ} {C : Fraction} → Rounded (whole 1) constant C → constant ≤ most → C ≼ whole (most + 1)
+constant-top {constant} r small =
+    ≼-trans (r .greatest) (≼-resp-≈ (whole-⊕ constant 1) ≈-refl (whole-order (omega arith)))
+
+pub part-near : {constant most d : ℕ} {C D : Fraction} → Rounded (whole 1) constant C → constant ≤ most → Share d D
+    → Within (whole (partError most)) (whole (constant * d / T)) (C ⊗ D ⊗ (1 ÷ T))
+part-near {constant} {most} {d} r small share =
+    within-weaken (part-room most)
+    (product-near constant d T T (most + 1) (lit< tt) (share .ticks) (rounded-not-negative r) (constant-top r small)
+    (rounded-within (whole-not-negative 1) r) (share .near))

@@ -1,16 +1,58 @@
--- Demand 3 as one statement about an accepted run: document 01, "Steps", last paragraph. Assumes nothing.
-use Prim.Native.Nat.{ℕ, zero, suc, _+_, _*_, _≤_, _<_}
+-- The promise rests on it. Demand 3 as one statement about an accepted run: document 01, "Steps", last paragraph.
+use Prim.Native.Nat.{ℕ, zero, suc, _+_, _-_, _*_, _≤_, _<_}
+use mathlib.Core.List.{List, [], _∷_, _++_}
+use lib.ListN.{length, take, getD}
 use mathlib.Core.Path.{_≡_}
-use mathlib.Core.List.{List, [], _∷_}
-use lib.ListN.{length, getD, drop}
 use Rattle.fraction.specs.Fraction.{Fraction, whole, Within}
-use Rattle.ticks.specs.Doubles.{ticksPerUnit}
-use Rattle.fields.specs.Quantities.{segmentsOf}
-use Rattle.checks.specs.Rows.{perRow}
-use Rattle.stages.specs.declared.BeforeAges.{BeforeAges}
-use Rattle.tolerance.specs.Logarithms.{Admissible, tableLogarithm}
-use Rattle.tolerance.specs.Stresses.{jacked, afterDeflector, exactStresses}
-use Rattle.tolerance.specs.Stresses.{coreFriction, coreAfterSegments, coreAfterDeflector, coreStresses}
+use Rattle.fields.specs.Quantities.{Quantities}
+use Rattle.member.specs.Constants.{jacked, frictionAlong, stressAlong as ticksAlong}
+use Rattle.stages.specs.declared.before.BeforeAges.{BeforeAges}
+use Rattle.stages.specs.declared.intervals.Row.{Row}
+use Rattle.stages.specs.Run.{Report}
+use Rattle.tolerance.specs.Method.{Choice, Admissible, tableChoice, stressAlong, afterSlip, stepsAfterSlip, afterDeflector}
+use Rattle.ticks.specs.Ticks.{ticksPerUnit}
+
+-- "Steps count s + n + 3: segments, slip, early relaxation, shortening, ages"
+abbrev pub stepsOf : Quantities → ℕ
+stepsOf q = length (q .path) + length (q .ages) + 3
+
+-- f 1, f 2, .. , f count
+unfoldable pub each : {A : Type 0} → ℕ → (ℕ → A) → List A
+each zero f = []
+each (suc count) f = each count f ++ (f (suc count) ∷ [])
+
+-- in fractions: the stress after each of some steps, from this one on
+unfoldable pub stressesBy : List (Fraction → Fraction) → Fraction → List Fraction
+stressesBy [] stress = []
+stressesBy (step ∷ steps) stress = step stress ∷ stressesBy steps (step stress)
+
+abbrev pub exactAfterSlip : Choice → Quantities → Fraction
+exactAfterSlip choice q = afterSlip choice q (stressAlong choice q (q .path))
+
+abbrev pub exactStresses : Choice → Quantities → List Fraction
+exactStresses choice q =
+    each (length (q .path)) (λ j. stressAlong choice q (take j (q .path)))
+    ++ (exactAfterSlip choice q ∷ stressesBy (stepsAfterSlip choice q) (exactAfterSlip choice q))
+
+-- ---- the core's: "the one these lines give in ticks, and where reply or report has it, the number there"
+
+abbrev pub coreAfterSlip : Quantities → BeforeAges → ℕ
+coreAfterSlip q before = jacked q - before .friction - before .slip
+
+abbrev pub coreAfterDeflector : Quantities → BeforeAges → ℕ
+coreAfterDeflector q before = coreAfterSlip q before - before .deflector
+
+abbrev pub coreAfterEarly : Quantities → BeforeAges → ℕ
+coreAfterEarly q before = coreAfterDeflector q before - before .«early_relaxation»
+
+unfoldable pub stressesOf : List Row → List ℕ
+stressesOf [] = []
+stressesOf (row ∷ rows) = row .stress ∷ stressesOf rows
+
+abbrev pub coreStresses : Quantities → Report → List ℕ
+coreStresses q report =
+    each (length (q .path)) (λ j. ticksAlong q (take j (q .path)))
+    ++ (coreAfterSlip q (report .before) ∷ coreAfterEarly q (report .before) ∷ report .before .stress ∷ stressesOf (report .rows))
 
 -- what the delivery note allows a step, in ticks: 1 psi where the fractions read the core's logarithms, and 40 psi whatever admissible
 -- ones they read
@@ -20,20 +62,16 @@ narrowStep = 1 * ticksPerUnit
 abbrev pub wideStep : ℕ
 wideStep = 40 * ticksPerUnit
 
--- "Steps count s + n + 3"
-abbrev pub stepsOf : ℕ → ℕ → ℕ
-stepsOf segments ages = segments + ages + 3
-
 -- two lists with a stress for each step. After every step k, counted from 1, the two stresses differ by at most k times `step` ticks;
 -- "what holds after slip holds after" the deflector loss, which is no step
-pub record Close (step : ℕ) (log : ℕ → Fraction) (segments ages : ℕ) (fields : List ℕ) (before : BeforeAges) (rows : List ℕ) : Type 0 where
-  pub core-count : length (coreStresses segments ages fields before rows) ≡ stepsOf segments ages
-  pub exact-count : length (exactStresses log segments ages fields) ≡ stepsOf segments ages
-  pub steps : (k : ℕ) → k < stepsOf segments ages
-      → Within (whole (suc k * step)) (whole (getD (coreStresses segments ages fields before rows) k 0))
-      (getD (exactStresses log segments ages fields) k (whole 0))
+pub record Close (step : ℕ) (choice : Choice) (q : Quantities) (report : Report) : Type 0 where
+  pub core-count : length (coreStresses q report) ≡ stepsOf q
+  pub exact-count : length (exactStresses choice q) ≡ stepsOf q
+  pub steps : (k : ℕ) → k < stepsOf q
+      → Within (whole (suc k * step)) (whole (getD (coreStresses q report) k 0)) (getD (exactStresses choice q) k (whole 0))
   pub deflector :
-      Within (whole (suc segments * step)) (whole (coreAfterDeflector fields before)) (afterDeflector log fields (segmentsOf segments fields))
+      Within (whole (suc (length (q .path)) * step)) (whole (coreAfterDeflector q (report .before)))
+      (afterDeflector choice q (exactAfterSlip choice q))
 
 -- no stress is larger than the one before it
 unfoldable pub Falls : ℕ → List ℕ → Type 0
@@ -45,23 +83,24 @@ abbrev pub lossesBefore : BeforeAges → ℕ
 lossesBefore before =
     before .friction + before .slip + before .deflector + before .«early_relaxation» + before .shortening
 
-unfoldable pub lossesOfRows : ℕ → List ℕ → ℕ
-lossesOfRows zero rows = 0
-lossesOfRows (suc ages) rows = getD rows 0 0 + getD rows 1 0 + getD rows 2 0 + lossesOfRows ages (drop perRow rows)
+unfoldable pub lossesOfRows : List Row → ℕ
+lossesOfRows [] = 0
+lossesOfRows (row ∷ rows) = row .creep + row .shrinkage + row .relaxation + lossesOfRows rows
 
 -- "the core's after a step is the one these lines give in ticks, and where reply or report has it, the number there". By the sums none
--- of the differences in `coreStresses` is cut at 0, and by the count every number that it reads is in the report.
-pub record Linked (segments ages : ℕ) (fields : List ℕ) (before : BeforeAges) (rows : List ℕ) (last : ℕ) : Type 0 where
-  pub path : (j : ℕ) → j ≤ segments → coreAfterSegments segments fields j + coreFriction segments fields j ≡ jacked fields
-  pub path-end : coreAfterSegments segments fields segments + before .friction ≡ jacked fields
-  pub reply : before .stress + lossesBefore before ≡ jacked fields
-  pub rows-count : length rows ≡ perRow * ages
-  pub report : getD (coreStresses segments ages fields before rows) (segments + ages + 2) 0 ≡ last
+-- of the differences in `coreStresses` is cut at 0, and by the count every age has its row.
+pub record Linked (q : Quantities) (report : Report) : Type 0 where
+  pub path : (j : ℕ) → j ≤ length (q .path)
+      → ticksAlong q (take j (q .path)) + frictionAlong q (take j (q .path)) ≡ jacked q
+  pub path-end : ticksAlong q (q .path) + report .before .friction ≡ jacked q
+  pub reply : report .before .stress + lossesBefore (report .before) ≡ jacked q
+  pub rows-count : length (report .rows) ≡ length (q .ages)
+  pub last : getD (coreStresses q report) (length (q .path) + length (q .ages) + 2) 0 ≡ report .last
 
 -- "Demand 3 is one claim over the whole run"
-pub record Demand3 (segments ages : ℕ) (fields : List ℕ) (before : BeforeAges) (rows : List ℕ) (last : ℕ) : Type 0 where
-  pub narrow : Close narrowStep tableLogarithm segments ages fields before rows
-  pub wide : (log : ℕ → Fraction) → Admissible log → Close wideStep log segments ages fields before rows
-  pub falls : Falls (jacked fields) (coreStresses segments ages fields before rows)
-  pub closes : jacked fields ≡ last + lossesBefore before + lossesOfRows ages rows
-  pub linked : Linked segments ages fields before rows last
+pub record Demand3 (q : Quantities) (report : Report) : Type 0 where
+  pub narrow : Close narrowStep tableChoice q report
+  pub wide : (choice : Choice) → Admissible choice → Close wideStep choice q report
+  pub falls : Falls (jacked q) (coreStresses q report)
+  pub closes : jacked q ≡ report .last + lossesBefore (report .before) + lossesOfRows (report .rows)
+  pub linked : Linked q report

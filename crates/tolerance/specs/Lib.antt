@@ -1,6 +1,3 @@
-pub mod Logarithms
-pub mod Quotients
-pub mod Coefficients
-pub mod Steps
-pub mod Stresses
+pub mod Formulas
+pub mod Method
 pub mod Demand

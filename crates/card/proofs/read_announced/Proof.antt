@@ -7,7 +7,8 @@ use lib.ListN.{replicate, length-drop}
 use lib.Seq.{length-take-le}
 use denote.Ref.{now}
 use borrow.Author.Needs.{needs}
-use Rattle.fields.specs.Layout.{mostSegments, mostAges, perSegment, perAge}
+use Rattle.fields.specs.Quantities.{perSegment, perAge}
+use Rattle.fields.specs.Limits.{mostSegments, mostAges}
 use Rattle.fields.proofs.Buffers.{tail}
 use Rattle.card.proofs.Outcome.{SegmentsRead, AgesRead, fields-taken}
 use Rattle.card.proofs.Outcome.{segment-wrong, segments-long, buffer-long, age-wrong, bytes-behind, all-announced}
@@ -26,6 +27,7 @@ read-lines-requires : tie.Need-read-lines-requires
 read-lines-requires c κs =
     let start = c .before .before .before .before in
     let count = fields-taken (start .args .segments) mostSegments perSegment (start .pre .segments-most) in
+    let lines = length-take-le (start .args .segments) (replicate mostSegments perSegment) (start .pre .segments-most) in
     search needs
 
 same-length : tie.Need-same-length
@@ -35,10 +37,10 @@ abbrev start : tie.After-read-lines → tie.Start
 start c = c .before .before .before .before .before
 
 abbrev buffer : tie.After-read-lines → List ℕ
-buffer c = c .read-lines .last .1 .1 .1 .1 .0
+buffer c = c .read-lines .last .1 .1 .1 .1 .1 .0
 
 segments-read : (c : tie.After-read-lines)
-    → SegmentsRead (now (start c .args .part)) (now (start c .args .fields)) (start c .args .segments) (start c .args .ages)
+    → SegmentsRead (start c .args .blank) (now (start c .args .part)) (now (start c .args .fields)) (start c .args .segments) (start c .args .ages)
     (c .read-lines .result) (buffer c)
 segments-read c = record { fits = start c .pre; read = c .read-lines .ensures }
 
@@ -50,9 +52,9 @@ no-segment-wrong : (c : tie.After-read-lines2) → segments-place c .read-lines 
 no-segment-wrong c = c .before .before .before .before .if1 .left
 
 ages-read : (c : tie.After-read-lines2)
-    → AgesRead (now (start (segments-place c) .args .part)) (start (segments-place c) .args .segments)
+    → AgesRead (start (segments-place c) .args .blank) (now (start (segments-place c) .args .part)) (start (segments-place c) .args .segments)
     (start (segments-place c) .args .ages) (buffer (segments-place c))
-    (c .read-lines2 .result) (c .read-lines2 .last .1 .1 .1 .1 .0)
+    (c .read-lines2 .result) (c .read-lines2 .last .1 .1 .1 .1 .1 .0)
 ages-read c = record { read = c .read-lines2 .ensures }
 
 returns : tie.Need-returns
@@ -101,15 +103,17 @@ part-read-lines-end-2 c = search needs
 
 read-lines-requires-2 : tie.Need-read-lines-requires-2
 read-lines-requires-2 c κs =
-    let lines = c .before .before .before .before .before .before in
-    let segments = start lines .args .segments in
-    let count = fields-taken (start lines .args .ages) mostAges perAge (start lines .pre .ages-most) in
-    let same = buffer-long (segments-read lines) (c .before .before .before .if1 .left) in
+    let place = c .before .before .before .before .before .before in
+    let segments = start place .args .segments in
+    let ages = start place .args .ages in
+    let count = fields-taken ages mostAges perAge (start place .pre .ages-most) in
+    let lines = length-take-le ages (replicate mostAges perAge) (start place .pre .ages-most) in
+    let same = buffer-long (segments-read place) (c .before .before .before .if1 .left) in
     record {
-      room = rw (tail (buffer lines) (perSegment * segments)) (simp length-drop (omega arith));
+      room = rw (tail (buffer place) (perSegment * segments)) (simp length-drop (omega arith));
+      numbered = omega arith;
       some-line = omega arith;
-      line-most = omega arith;
-      field-most = omega arith;
+      lines-numbered = omega arith;
     }
 
 same-length-2 : tie.Need-same-length-2

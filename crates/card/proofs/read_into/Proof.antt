@@ -24,10 +24,10 @@ abbrev start : tie.After-read-lines → tie.Start
 start c = c .before .before .before .before .before
 
 abbrev buffer : tie.After-read-lines → List ℕ
-buffer c = c .read-lines .last .1 .1 .1 .1 .0
+buffer c = c .read-lines .last .1 .1 .1 .1 .1 .0
 
 head-read : (c : tie.After-read-lines)
-    → HeadRead (now (start c .args .card)) (now (start c .args .fields)) (c .read-lines .result) (buffer c)
+    → HeadRead (start c .args .blank) (now (start c .args .card)) (now (start c .args .fields)) (c .read-lines .result) (buffer c)
 head-read c = record { room = start c .pre; read = c .read-lines .ensures }
 
 returns : tie.Need-returns
@@ -93,7 +93,7 @@ abbrev head-place : tie.Else4 → tie.After-read-lines
 head-place c = c .before .before .before .before .before .before .before .before
 
 counts-read : (c : tie.Else4)
-    → CountsRead (now (start (head-place c) .args .card)) (now (start (head-place c) .args .fields)) (buffer (head-place c))
+    → CountsRead (start (head-place c) .args .blank) (now (start (head-place c) .args .card)) (now (start (head-place c) .args .fields)) (buffer (head-place c))
 counts-read c = record {
   wrong = head-place c .read-lines .result;
   lines = head-read (head-place c);
@@ -108,8 +108,8 @@ abbrev counts-place : tie.After-read-announced → tie.Else4
 counts-place c = c .before .before .before
 
 tail-read : (c : tie.After-read-announced)
-    → TailRead (now (start (head-place (counts-place c)) .args .card)) (buffer (head-place (counts-place c)))
-    (c .read-announced .result) (c .read-announced .last .1 .1 .1 .0)
+    → TailRead (start (head-place (counts-place c)) .args .blank) (now (start (head-place (counts-place c)) .args .card)) (buffer (head-place (counts-place c)))
+    (c .read-announced .result) (c .read-announced .last .1 .1 .1 .1 .0)
 tail-read c = record { read = c .read-announced .ensures }
 
 sub-read-announced : tie.Need-sub-read-announced

@@ -6,7 +6,7 @@ use native.Mathlib.Nat.{one-le-pow}
 use native.Mathlib.Omega.{arith}
 use lib.Dec.{lit<}
 use borrow.Author.Needs.{needs}
-use Rattle.fields.specs.Layout.{columns}
+use Rattle.fields.specs.Quantities.{columns}
 use Rattle.line.proofs.Fields.{Digits, bound, a-digit, below-digits, above-digits, all-digits}
 use Rattle.line.proofs.digits.Statement.{statement}
 use Rattle.line.proofs.digits.Tie as tie

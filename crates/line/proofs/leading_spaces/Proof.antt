@@ -2,7 +2,7 @@
 -- the columns passed and the spaces behind them. Assumes nothing.
 use Prim.Native.Nat.{_-_}
 use borrow.Author.Needs.{needs}
-use Rattle.fields.specs.Layout.{columns}
+use Rattle.fields.specs.Quantities.{columns}
 use Rattle.line.proofs.Fields.{Spaces, a-space, no-space, all-spaces}
 use Rattle.line.proofs.leading_spaces.Statement.{statement}
 use Rattle.line.proofs.leading_spaces.Tie as tie

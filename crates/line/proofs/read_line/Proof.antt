@@ -4,15 +4,15 @@ use mathlib.Core.Path.{_∙_}
 use Prim.Native.Nat.{_+_, _-_}
 use denote.Ref.{now}
 use borrow.Author.Needs.{needs}
-use Rattle.line.proofs.Amounts.{Front, begins, too-short, no-line-feed, turn, amount-at, wrong-field, all-fields}
+use Rattle.line.proofs.Amounts.{Front, begins, too-short, no-line-feed, next-columns, turn, amount-at, wrong-field, all-fields}
 use Rattle.line.proofs.read_line.Statement.{statement}
 use Rattle.line.proofs.read_line.Tie as tie
 
 abbrev Inv-loop : tie.InvT-loop
-Inv-loop part count field fields₀ end done₀ at₀ fields done at = Front part count field fields₀ fields done at
+Inv-loop part blank count field fields₀ end done₀ at₀ fields done at = Front blank part count field fields₀ fields done at
 
 abbrev μ-loop : tie.MeasureT-loop
-μ-loop part count field fields₀ end done₀ at₀ fields done at = count - done
+μ-loop part blank count field fields₀ end done₀ at₀ fields done at = count - done
 
 mul-end : tie.Need-mul-end Inv-loop μ-loop
 mul-end c = search needs
@@ -20,7 +20,7 @@ mul-end c = search needs
 returns : tie.Need-returns Inv-loop μ-loop
 returns c =
     let start = c .before .before .before in
-    too-short (now (start .args .part)) (start .args .count) (start .args .field) (now (start .args .fields)) (c .if1 .taken)
+    too-short (start .args .blank) (now (start .args .part)) (start .args .count) (start .args .field) (now (start .args .fields)) (c .if1 .taken)
 
 shared-slice-read-if2 : tie.Need-shared-slice-read-if2 Inv-loop μ-loop
 shared-slice-read-if2 c = search needs
@@ -28,13 +28,13 @@ shared-slice-read-if2 c = search needs
 returns-2 : tie.Need-returns-2 Inv-loop μ-loop
 returns-2 c =
     let start = c .before .before .before .before .before in
-    no-line-feed (now (start .args .part)) (start .args .count) (start .args .field) (now (start .args .fields))
+    no-line-feed (start .args .blank) (now (start .args .part)) (start .args .count) (start .args .field) (now (start .args .fields))
     (c .before .before .if1 .left) (c .if2 .taken)
 
 loop-holds : tie.Need-loop-holds Inv-loop μ-loop
 loop-holds c =
     let start = c .before .before .before .before .before in
-    begins (now (start .args .part)) (start .args .count) (start .args .field) (now (start .args .fields))
+    begins (start .args .blank) (now (start .args .part)) (start .args .count) (start .args .field) (now (start .args .fields))
     (start .pre .room) (c .before .before .if1 .left) (c .if2 .left)
 
 add-amount-of : tie.Need-add-amount-of Inv-loop μ-loop
@@ -50,7 +50,7 @@ part-read-field-end : tie.Need-part-read-field-end Inv-loop μ-loop
 part-read-field-end c = search needs
 
 read-field-requires : tie.Need-read-field-requires Inv-loop μ-loop
-read-field-requires c κs = search needs
+read-field-requires c κs = next-columns (c .before .before .loop .inv) (c .before .loop-test .taken)
 
 amount-of-requires : tie.Need-amount-of-requires Inv-loop μ-loop
 amount-of-requires c κs = search needs
@@ -72,7 +72,7 @@ returns-3 c =
     let read-field = c .before .before .before .read-field in
     let amount-of = c .before .before .amount-of in
     wrong-field (loop .inv) (loop-test .taken)
-    (amount-at (now (start .args .part)) (start .args .field + loop .done) (loop .at)
+    (amount-at (start .args .blank) (now (start .args .part)) (start .args .field + loop .done) (loop .at)
     (read-field .result) (amount-of .result) (read-field .ensures) (amount-of .ensures) ∙ c .enum-told .given .1)
 
 mul-fields : tie.Need-mul-fields Inv-loop μ-loop
@@ -98,7 +98,7 @@ loop-again c =
     let read-field = c .before .before .before .before .read-field in
     let amount-of = c .before .before .before .amount-of in
     turn (loop .inv) (c .before .number .given .0 .0) (loop-test .taken)
-    (amount-at (now (start .args .part)) (start .args .field + loop .done) (loop .at)
+    (amount-at (start .args .blank) (now (start .args .part)) (start .args .field + loop .done) (loop .at)
     (read-field .result) (amount-of .result) (read-field .ensures) (amount-of .ensures) ∙ c .before .number .given .1)
 
 same-length-2 : tie.Need-same-length-2 Inv-loop μ-loop

@@ -4,9 +4,10 @@ use mathlib.Core.Path.{_≡_}
 use mathlib.Core.Logic.{⊎-elim}
 use mathlib.Core.Bool.{false}
 use borrow.Author.Needs.{needs}
+use Rattle.fields.specs.Quantities.{straight, parabola, bend}
 use Rattle.list.specs.Lists.{ticksIn, wholeIn}
 use Rattle.list.specs.Measures.{is, isStraight, isParabola, isBend}
-use Rattle.list.proofs.Segments.{tested, unless-first, unless-second, straight, parabola, bend, unlisted}
+use Rattle.list.proofs.Segments.{tested, unless-first, unless-second, is-straight, is-parabola, is-bend, is-unlisted}
 use Rattle.list.proofs.entry_of.Statement.{statement}
 use Rattle.list.proofs.entry_of.Tie as tie
 
@@ -25,8 +26,8 @@ is-requires-2 c κs = search needs
 returns : tie.Need-returns
 returns c =
     let first = c .before .before .before in
-    straight _ _ _
-    (tested 1 (first .before .is .ensures) (first .before .before .whole-of-double .ensures) (first .if1 .taken))
+    is-straight _ _ _
+    (tested straight (first .before .is .ensures) (first .before .before .whole-of-double .ensures) (first .if1 .taken))
     (tested 0 (c .before .is2 .ensures) (c .before .before .ticks-of-double .ensures) (c .if2 .taken))
 
 is-requires-3 : tie.Need-is-requires-3
@@ -39,15 +40,15 @@ not-straight : (c : tie.Joined1) → isStraight (start c .args .kind) (start c .
 not-straight c =
     let code = c .before .before .whole-of-double .ensures in
     ⊎-elim
-    (λ w. unless-second (is (wholeIn (start c .args .kind)) 1) (tested 0 (w .2 .ensures) (w .1 .ensures) (w .3 .left)))
-    (λ w. unless-first (is (ticksIn (start c .args .third)) 0) (tested 1 (c .before .is .ensures) code (w .left)))
+    (λ w. unless-second (is (wholeIn (start c .args .kind)) straight) (tested 0 (w .2 .ensures) (w .1 .ensures) (w .3 .left)))
+    (λ w. unless-first (is (ticksIn (start c .args .third)) 0) (tested straight (c .before .is .ensures) code (w .left)))
     (c .if1 .came)
 
 returns-2 : tie.Need-returns-2
 returns-2 c =
     let other = c .before .before in
     let code = other .before .before .whole-of-double .ensures in
-    parabola _ _ _ (not-straight other) (tested 2 (c .before .is3 .ensures) code (c .if3 .taken))
+    is-parabola _ _ _ (not-straight other) (tested parabola (c .before .is3 .ensures) code (c .if3 .taken))
 
 is-requires-4 : tie.Need-is-requires-4
 is-requires-4 c κs = search needs
@@ -59,14 +60,14 @@ is-requires-5 : tie.Need-is-requires-5
 is-requires-5 c κs = search needs
 
 not-parabola : (c : tie.Else3) → isParabola (start (c .before .before) .args .kind) ≡ false
-not-parabola c = tested 2 (c .before .is3 .ensures) (c .before .before .before .before .whole-of-double .ensures) (c .if3 .left)
+not-parabola c = tested parabola (c .before .is3 .ensures) (c .before .before .before .before .whole-of-double .ensures) (c .if3 .left)
 
 returns-3 : tie.Need-returns-3
 returns-3 c =
     let second = c .before .before .before in
     let other = second .before .before in
     let code = other .before .before .before .before .whole-of-double .ensures in
-    bend _ _ _ (not-straight (other .before .before)) (not-parabola other) (tested 3 (second .before .is4 .ensures) code (second .if4 .taken))
+    is-bend _ _ _ (not-straight (other .before .before)) (not-parabola other) (tested bend (second .before .is4 .ensures) code (second .if4 .taken))
     (tested 0 (c .before .is5 .ensures) (c .before .before .ticks-of-double2 .ensures) (c .if5 .taken))
 
 not-bend : (c : tie.Joined4)
@@ -76,14 +77,14 @@ not-bend c =
     let first = c .before .before .before .before in
     let code = first .before .before .whole-of-double .ensures in
     ⊎-elim
-    (λ w. unless-second (is (wholeIn (start first .args .kind)) 3) (tested 0 (w .2 .ensures) (w .1 .ensures) (w .3 .left)))
-    (λ w. unless-first (is (ticksIn (start first .args .second)) 0) (tested 3 (c .before .is4 .ensures) code (w .left)))
+    (λ w. unless-second (is (wholeIn (start first .args .kind)) bend) (tested 0 (w .2 .ensures) (w .1 .ensures) (w .3 .left)))
+    (λ w. unless-first (is (ticksIn (start first .args .second)) 0) (tested bend (c .before .is4 .ensures) code (w .left)))
     (c .if4 .came)
 
 returns-4 : tie.Need-returns-4
 returns-4 c =
     let other = c .before .before in
-    unlisted _ _ _ (not-straight (other .before .before)) (not-parabola other) (not-bend c)
+    is-unlisted _ _ _ (not-straight (other .before .before)) (not-parabola other) (not-bend c)
 
 pub entry-of-spec : {M : Type 1} → statement M
 entry-of-spec =

@@ -17,9 +17,6 @@ mul-x c = search needs
 shared-slice-read-x : tie.Need-shared-slice-read-x
 shared-slice-read-x c = search needs
 
-sub-section-amount : tie.Need-sub-section-amount
-sub-section-amount c = search needs
-
 section-amount-requires : tie.Need-section-amount-requires
 section-amount-requires c κs = search needs
 
@@ -32,7 +29,7 @@ ticks-of-double-requires c κs = search needs
 returns : tie.Need-returns
 returns c =
     let start = c .before .before .before .before .before .before .before .before in
-    section-read (now (start .args .list)) _ (start .args .field) (start .pre .1 .1) (omega arith) (omega arith)
+    section-read (now (start .args .list)) _ (start .args .field) (start .pre .section-is) (omega arith) (omega arith)
     (c .section-amount .ensures)
 
 returns-2 : tie.Need-returns-2
@@ -58,7 +55,6 @@ head-amount-spec =
     sub-x
     mul-x
     shared-slice-read-x
-    sub-section-amount
     section-amount-requires
     whole-of-double-requires
     ticks-of-double-requires

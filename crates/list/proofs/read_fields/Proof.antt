@@ -7,8 +7,9 @@ use lib.ListN.{length}
 use denote.Ref.{now}
 use borrow.Author.Needs.{needs}
 use borrow.Rule.Slice.PartMut.{putMid}
-use Rattle.fields.specs.Layout.{headFields}
-use Rattle.list.specs.Lists.{amountsOf, Written}
+use Rattle.fields.specs.Quantities.{headFields}
+use Rattle.list.specs.Lists.{amountsOf}
+use Rattle.list.specs.Measures.{Written}
 use Rattle.list.proofs.Parts.{firstAge, beforeAges, head-length, head-refused, before-ages-refused}
 use Rattle.list.proofs.Parts.{segments-written, segment-within, ages-written, age-within}
 use Rattle.list.proofs.read_fields.Statement.{statement}
@@ -17,12 +18,15 @@ use Rattle.list.proofs.read_fields.Tie as tie
 slice-aggregate-read-head : tie.Need-slice-aggregate-read-head
 slice-aggregate-read-head c =
     let start = c .before .before .before in
-    sym (head-length (now (start .args .list)) (start .args .segments) (start .pre .1))
+    sym (head-length (now (start .args .list)) (start .args .segments) (start .pre .segments-listed))
 
 read-head-requires : tie.Need-read-head-requires
 read-head-requires c κs =
     let start = c .before .before .before .before in
-    (head-length (now (start .args .list)) (start .args .segments) (start .pre .1), search needs)
+    record {
+      whole-head = head-length (now (start .args .list)) (start .args .segments) (start .pre .segments-listed);
+      room = search needs;
+    }
 
 same-length : tie.Need-same-length
 same-length c = search needs
@@ -46,7 +50,8 @@ returns : tie.Need-returns
 returns c =
     let read = c .before .before .before in
     let args = start read .args in
-    head-refused (now (args .list)) (args .segments) (start read .pre .1) (now (args .fields)) (read .read-head .ensures) (c .if1 .taken)
+    head-refused (now (args .list)) (args .segments) (start read .pre .segments-listed) (now (args .fields))
+    (read .read-head .ensures) (c .if1 .taken)
 
 mul-first-age : tie.Need-mul-first-age
 mul-first-age c = search needs
@@ -81,15 +86,15 @@ up-to-ages : (c : tie.After-read-segments)
 up-to-ages c =
     let read = head c in
     let args = start read .args in
-    segments-written (now (args .list)) (args .segments) (start read .pre .1) (now (args .fields)) (read .read-head .ensures)
-    (c .before .before .before .if1 .left) (c .read-segments .ensures)
+    segments-written (now (args .list)) (args .segments) (start read .pre .segments-listed) (now (args .fields))
+    (read .read-head .ensures) (c .before .before .before .if1 .left) (c .read-segments .ensures)
 
 add-read : tie.Need-add-read
 add-read c =
     let read = c .before .before in
     let first = start (head read) in
     let args = first .args in
-    let within = segment-within (now (args .list)) (args .segments) (first .pre .1) (now (args .fields)) (up-to-ages read) in
+    let within = segment-within (now (args .list)) (args .segments) (first .pre .segments-listed) (now (args .fields)) (up-to-ages read) in
     omega arith
 
 same-length-2 : tie.Need-same-length-2
@@ -100,7 +105,8 @@ returns-2 c =
     let read = c .before .before .before in
     let first = start (head read) in
     let args = first .args in
-    before-ages-refused (now (args .list)) (args .segments) (first .pre .1) (now (args .fields)) (up-to-ages read) (c .if2 .taken)
+    before-ages-refused (now (args .list)) (args .segments) (first .pre .segments-listed) (now (args .fields))
+    (up-to-ages read) (c .if2 .taken)
 
 mul-read-ages : tie.Need-mul-read-ages
 mul-read-ages c = search needs
@@ -138,15 +144,15 @@ all-parts : (c : tie.After-read-ages)
 all-parts c =
     let first = start (head (segments c)) in
     let args = first .args in
-    ages-written (now (args .list)) (args .segments) (first .pre .1) (now (args .fields)) (up-to-ages (segments c))
-    (c .before .before .before .if2 .left) (c .read-ages .ensures)
+    ages-written (now (args .list)) (args .segments) (first .pre .segments-listed) (now (args .fields))
+    (up-to-ages (segments c)) (c .before .before .before .if2 .left) (c .read-ages .ensures)
 
 add-result : tie.Need-add-result
 add-result c =
     let read = c .before .before in
     let first = start (head (segments read)) in
     let args = first .args in
-    let within = age-within (now (args .list)) (args .segments) (first .pre .1) (now (args .fields)) (all-parts read) in
+    let within = age-within (now (args .list)) (args .segments) (first .pre .segments-listed) (now (args .fields)) (all-parts read) in
     omega arith
 
 same-length-3 : tie.Need-same-length-3

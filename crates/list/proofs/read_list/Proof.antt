@@ -25,7 +25,7 @@ read-fields-requires : tie.Need-read-fields-requires
 read-fields-requires c κs =
     let called = c .before .before .before .before in
     let fits = room (now (called .before .before .args .list)) (called .counts .ensures) (c .before .before .reading .given .1) in
-    omega arith
+    record { room = omega arith; segments-listed = omega arith }
 
 add-t11 : tie.Need-add-t11
 add-t11 c = search needs

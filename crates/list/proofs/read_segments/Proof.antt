@@ -15,7 +15,7 @@ abbrev μ-loop : tie.MeasureT-loop
 μ-loop part fields₀ at₀ fields at = length part - at
 
 loop-holds : tie.Need-loop-holds Inv-loop μ-loop
-loop-holds c = let start = c .before .before in begins _ _ (start .pre .0) (start .pre .1)
+loop-holds c = let start = c .before .before in begins _ _ (start .pre .whole-segments) (start .pre .room)
 
 mul-entry-of : tie.Need-mul-entry-of Inv-loop μ-loop
 mul-entry-of c = search needs

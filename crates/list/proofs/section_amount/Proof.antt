@@ -1,8 +1,9 @@
--- `list::section_amount` meets its contract: the measure is known in each arm, where the list of measures computes. Assumes
+-- `list::section_amount` meets its contract: the field is known in each arm, where the list of measures computes. Assumes
 -- nothing.
 use mathlib.Core.Path.{_≡_}
 use native.Mathlib.Omega.{arith}
 use borrow.Author.Needs.{needs}
+use Rattle.fields.specs.Quantities.{fieldNumber}
 use Rattle.list.proofs.section_amount.Statement.{statement}
 use Rattle.list.proofs.section_amount.Tie as tie
 
@@ -34,7 +35,7 @@ returns-4 : tie.Need-returns-4
 returns-4 c = rw (c .before .match .keys4) (c .ticks-of-double4 .ensures)
 
 returns-5 : tie.Need-returns-5
-returns-5 c = let last : c .before .before .args .measure ≡ 4 = omega arith in rw last (c .ticks-of-double5 .ensures)
+returns-5 c = let last : c .before .before .args .field ≡ (fieldNumber .ownWeightMoment) = omega arith in rw last (c .ticks-of-double5 .ensures)
 
 pub section-amount-spec : {M : Type 1} → statement M
 section-amount-spec =

@@ -9,7 +9,7 @@ use lib.ListN.{length, set, length-set}
 use denote.Ref.{now}
 use borrow.Author.Needs.{needs}
 use Rattle.ticks.specs.declared.Amount.the-variants.{Of}
-use Rattle.fields.specs.Layout.{perSegment}
+use Rattle.fields.specs.Quantities.{perSegment}
 use Rattle.list.specs.declared.SegmentAmounts.{SegmentAmounts}
 use Rattle.list.specs.Measures.{inOrder}
 use Rattle.list.proofs.Numbers.{Front, begun, one-more, stopped, finished}

@@ -7,7 +7,8 @@ use lib.ListN.{getD}
 use native.Mathlib.Nat.{pow-le-pow-left, le-trans}
 use native.Mathlib.Omega.{arith}
 use borrow.Author.Needs.{needs}
-use Rattle.logarithm.specs.Logarithm.{power, lastThreshold, largestUpTo, logarithm, IsTable}
+use Rattle.logarithm.specs.Logarithm.{power, lastThreshold, largestUpTo, logarithm}
+use Rattle.logarithm.specs.Table.{IsTable}
 use Rattle.logarithm.proofs.Largest.{no-more, no-less, cut}
 use Rattle.logarithm.proofs.reading.Statement.{statement}
 use Rattle.logarithm.proofs.reading.Tie as tie

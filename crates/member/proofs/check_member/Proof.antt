@@ -1,91 +1,72 @@
--- The rows from codes to hours give the places that the definition looks at, one after another; where none gives one, their laws
--- say what `check_path` asks. Assumes nothing.
-use mathlib.Core.Path.{sym, _∙_}
-use borrow.Author.Tests.{eq-eqb, ne-eqb}
+-- The rows are those to the duct, and then those below it. Assumes nothing.
+use mathlib.Core.Path.{_≡_, sym, ap, _∙_}
+use Prim.Native.Nat.{ℕ}
+use mathlib.Core.List.{[]}
+use Rattle.fields.specs.Outcomes.{OrRefusal, Gives, onward}
+use Rattle.fields.specs.Given.{numberGiven}
+use Rattle.fields.specs.Quantities.{Quantities, quantitiesOf}
+use Rattle.checks.specs.Rows.{checkedBy}
+use Rattle.checks.proofs.Cascade.{in-parts, given-is}
+use Rattle.member.specs.Member.{frictionOf, memberOf, codesToDuct, buffersToCreep, checkedOf}
+use Rattle.member.proofs.Laws.{by-rows, to-duct, head-alone}
 use borrow.Author.Needs.{needs}
-use Rattle.member.specs.Stages.{fromSection, fromDuct}
-use Rattle.member.specs.Member.{checkedOf}
-use Rattle.member.proofs.Laws.{passed-rows}
 use Rattle.member.proofs.check_member.Statement.{statement}
 use Rattle.member.proofs.check_member.Tie as tie
 
-first-failing-requires : tie.Need-first-failing-requires
-first-failing-requires c κs = search needs
+abbrev quantities : tie.Start → Quantities
+quantities c = quantitiesOf (c .args .segments) (c .args .ages) (c .args .fields .now)
+
+-- the whole, once what is above and at the duct is made
+whole : (q : Quantities) (report scratch : ℕ) {to-duct : OrRefusal ℕ} → to-duct ≡ checkedBy (codesToDuct q) (frictionOf q)
+    → onward to-duct (λ friction. checkedBy (buffersToCreep q report scratch) (memberOf q)) ≡ checkedOf q report scratch
+whole q report scratch e =
+    rw e (sym (by-rows q report scratch ∙ in-parts (codesToDuct q) (buffersToCreep q report scratch) (frictionOf q) (memberOf q)))
+
+ducted : (c : tie.After-friction)
+    → checkedBy (codesToDuct (quantities (c .before .before .before))) (frictionOf (quantities (c .before .before .before)))
+    ≡ Gives (c .friction .given .0 .0)
+ducted c = sym (c .before .before .check-to-duct .ensures) ∙ ap numberGiven (c .friction .given .1)
+
+check-to-duct-requires : tie.Need-check-to-duct-requires
+check-to-duct-requires c κs = search needs
+
+enum-known-friction : tie.Need-enum-known-friction
+enum-known-friction c = search needs
+
+check-below-duct-requires : tie.Need-check-below-duct-requires
+check-below-duct-requires c κs =
+    let start = c .before .before .before .before in
+    let q = quantities start in
+    record {
+      readable = start .pre;
+      head =
+          head-alone (start .args .segments) (start .args .ages) (start .args .fields .now)
+          (to-duct q [] (frictionOf q) (ducted (c .before)) .fields);
+      friction-is = given-is (codesToDuct q) (frictionOf q) (ducted (c .before));
+    }
+
+enum-known-refusal : tie.Need-enum-known-refusal
+enum-known-refusal c = search needs
 
 returns : tie.Need-returns
-unfolding checkedOf
 returns c =
-    rw (← c .before .first-failing .ensures, ne-eqb _ 0 (c .if1 .taken))
-
-first-failing-requires-2 : tie.Need-first-failing-requires-2
-first-failing-requires-2 c κs = search needs
+    let start = c .before .before .before .before .before in
+    c .check-below-duct .ensures
+    ∙ whole (quantities start) (start .args .report) (start .args .scratch) (sym (ducted (c .before .before)))
 
 returns-2 : tie.Need-returns-2
-unfolding checkedOf
 returns-2 c =
-    let codes = c .before .before .before in
-    rw (
-      ← codes .first-failing .ensures,
-      eq-eqb _ 0 (c .before .before .if1 .left),
-      ← c .before .first-failing2 .ensures,
-      ne-eqb _ 0 (c .if2 .taken),
-    )
-
-first-failing-requires-3 : tie.Need-first-failing-requires-3
-first-failing-requires-3 c κs = search needs
-
-returns-3 : tie.Need-returns-3
-unfolding checkedOf
-returns-3 c =
-    let ranges = c .before .before .before in
-    let codes = ranges .before .before in
-    rw (
-      ← codes .first-failing .ensures,
-      eq-eqb _ 0 (ranges .before .if1 .left),
-      ← ranges .first-failing2 .ensures,
-      eq-eqb _ 0 (c .before .before .if2 .left),
-      ← c .before .first-failing3 .ensures,
-      ne-eqb _ 0 (c .if3 .taken),
-    )
-
-check-path-requires : tie.Need-check-path-requires
-check-path-requires c κs =
-    let ranges = c .before .before .before in
-    let codes = ranges .before .before in
-    let start = codes .before in
-    let rows =
-    passed-rows (start .args .segments) (start .args .ages) (start .args .fields .now) (start .pre .segments-most)
-    (sym (codes .first-failing .ensures) ∙ ranges .before .if1 .left)
-    (sym (ranges .first-failing2 .ensures) ∙ c .before .before .if2 .left)
-    (sym (c .before .first-failing3 .ensures) ∙ c .if3 .left)
-    in
-    (start .pre, (rows .0, rows .1))
-
-returns-4 : tie.Need-returns-4
-unfolding checkedOf fromDuct fromSection
-returns-4 c =
-    let hours = c .before .before in
-    let ranges = hours .before .before in
-    let codes = ranges .before .before in
-    rw (
-      ← codes .first-failing .ensures,
-      eq-eqb _ 0 (ranges .before .if1 .left),
-      ← ranges .first-failing2 .ensures,
-      eq-eqb _ 0 (hours .before .if2 .left),
-      ← hours .first-failing3 .ensures,
-      eq-eqb _ 0 (c .before .if3 .left),
-    )
-    (c .check-path .ensures)
+    let start = c .before .before .before .before in
+    whole (quantities start) (start .args .report) (start .args .scratch)
+    (sym (ap numberGiven (c .before .refusal .given .1)) ∙ c .before .before .before .check-to-duct .ensures)
 
 pub check-member-spec : {M : Type 1} → statement M
 check-member-spec =
     tie.close
     (tie.spec
-    first-failing-requires
+    check-to-duct-requires
+    enum-known-friction
+    check-below-duct-requires
+    enum-known-refusal
     returns
-    first-failing-requires-2
-    returns-2
-    first-failing-requires-3
-    returns-3
-    check-path-requires
-    returns-4)
+    returns-2)

@@ -42,7 +42,7 @@ returns c =
     let codes = c .before .before .before .before in
     let cure = codes .before .before .cure-of .ensures in
     let concrete = codes .concrete-of .ensures in
-    (c .whole-creep .ensures .0 ∙ rw (cure, concrete), c .whole-creep .ensures .1)
+    record { is = c .whole-creep .ensures .is ∙ rw (cure, concrete); most = c .whole-creep .ensures .most }
 
 pub creep-of-spec : {M : Type 1} → statement M
 creep-of-spec =

@@ -1,8 +1,40 @@
 -- Each field of the member is the one that the definition reads. Assumes nothing.
+use mathlib.Core.Path.{_≡_}
+use Prim.Native.Nat.{ℕ, _+_, _*_}
+use lib.ListN.{length, drop}
+use Rattle.coefficient.specs.declared.codes.Steel.{Steel}
+use Rattle.coefficient.specs.declared.clocks.MemberHours.{MemberHours}
+use Rattle.fields.specs.Quantities.{headFields, perSegment, Quantities, quantitiesOf}
+use Rattle.fields.proofs.Laws.{ages-length}
+use Rattle.member.specs.Member.{hoursOf, steelOf, frictionOf, kappaOf, creepOf, shrinkageOf, memberOf}
 use borrow.Author.Needs.{needs}
-use Rattle.member.specs.Member.{memberOf}
 use Rattle.member.proofs.member_of.Statement.{statement}
 use Rattle.member.proofs.member_of.Tie as tie
+
+made : (q : Quantities) {hours : MemberHours} {steel : Steel} {friction kappa creep shrinkage ages : ℕ}
+    → hours ≡ hoursOf q → steel ≡ steelOf (q .steel) → friction ≡ frictionOf q → kappa ≡ kappaOf q → creep ≡ creepOf q
+    → shrinkage ≡ shrinkageOf q → length (q .ages) ≡ ages
+    → record {
+      hours = hours;
+      steel = steel;
+      «ultimate_strength» = q .ultimateStrength;
+      «jacking_stress» = q .jackingStress;
+      «deflector_loss» = q .deflectorLoss;
+      slip = q .slip;
+      length = q .tendonLength;
+      es = q .Es;
+      eci = q .Eci;
+      inertia = q .inertia;
+      eccentricity = q .eccentricity;
+      «own_weight_moment» = q .ownWeightMoment;
+      friction = friction;
+      kappa = kappa;
+      creep = creep;
+      shrinkage = shrinkage;
+      ages = ages;
+    } ≡ memberOf q
+unfolding memberOf
+made q h st f k u sh a = rw (h, st, f, k, u, sh, a)
 
 hours-of-requires : tie.Need-hours-of-requires
 hours-of-requires c κs = search needs
@@ -47,18 +79,15 @@ shrinkage-of-requires : tie.Need-shrinkage-of-requires
 shrinkage-of-requires c κs = search needs
 
 returns : tie.Need-returns
-unfolding memberOf
 returns c =
     let read = c .before .before .before .before .before .before .before .before .before .before .before in
     let start = read .before .before .before in
-    rw (
-      c .shrinkage-of .ensures,
-      read .steel-of .ensures,
-      read .before .before .hours-of .ensures,
-      start .pre .1 .friction-is,
-      start .pre .1 .kappa-is,
-      start .pre .1 .creep-is,
-    )
+    let fields = start .args .fields .now in
+    let segments = start .args .segments in
+    let ages = start .args .ages in
+    made (quantitiesOf segments ages fields) (read .before .before .hours-of .ensures) (read .steel-of .ensures)
+    (start .pre .friction-is) (start .pre .kappa-is) (start .pre .creep-is) (c .shrinkage-of .ensures)
+    (ages-length ages (drop (headFields + perSegment * segments) fields))
 
 pub member-of-spec : {M : Type 1} → statement M
 member-of-spec =

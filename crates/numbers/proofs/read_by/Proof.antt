@@ -2,7 +2,7 @@
 use mathlib.Core.Path.{sym, ap, _∙_}
 use denote.Ref.{now}
 use borrow.Author.Needs.{needs}
-use Rattle.fields.specs.Amounts.{Outcome, over}
+use Rattle.fields.specs.Outcomes.{Outcome, over}
 use Rattle.numbers.proofs.ListBytes.{front-length, bytes-enough, read-length, read-outcome}
 use Rattle.numbers.proofs.read_by.Statement.{statement}
 use Rattle.numbers.proofs.read_by.Tie as tie

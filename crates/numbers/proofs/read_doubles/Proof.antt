@@ -3,7 +3,7 @@ use Prim.Native.Nat.{_-_}
 use lib.ListN.{length}
 use borrow.Author.Needs.{needs}
 use native.Mathlib.Omega.{arith}
-use Rattle.numbers.proofs.Bytes.{Decoded, decoded-none, decoded-more, decoded-all}
+use Rattle.numbers.proofs.Bytes.{Decoded, decoded-none, decoded-room, decoded-more, decoded-all}
 use Rattle.numbers.proofs.read_doubles.Statement.{statement}
 use Rattle.numbers.proofs.read_doubles.Tie as tie
 
@@ -29,7 +29,9 @@ part-read-number-end : tie.Need-part-read-number-end Inv-loop μ-loop
 part-read-number-end c = search needs
 
 read-number-requires : tie.Need-read-number-requires Inv-loop μ-loop
-read-number-requires c κs = search needs
+read-number-requires c κs =
+    let start = c .before .before .before .before .before in
+    decoded-room _ _ _ _ (c .before .before .loop .inv) (c .before .loop-test .taken) (start .pre .room)
 
 double-of-requires : tie.Need-double-of-requires Inv-loop μ-loop
 double-of-requires c κs = search needs

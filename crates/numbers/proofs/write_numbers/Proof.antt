@@ -4,7 +4,7 @@ use Prim.Native.Nat.{_-_}
 use lib.ListN.{length}
 use borrow.Author.Needs.{needs}
 use native.Mathlib.Omega.{arith}
-use Rattle.numbers.proofs.Bytes.{Stored, stored-none, stored-more, stored-all}
+use Rattle.numbers.proofs.Bytes.{Stored, stored-none, stored-room, stored-more, stored-all}
 use Rattle.numbers.proofs.write_numbers.Statement.{statement}
 use Rattle.numbers.proofs.write_numbers.Tie as tie
 
@@ -36,7 +36,9 @@ shared-slice-read-write-number : tie.Need-shared-slice-read-write-number Inv-loo
 shared-slice-read-write-number c = search needs
 
 write-number-requires : tie.Need-write-number-requires Inv-loop μ-loop
-write-number-requires c κs = search needs
+write-number-requires c κs =
+    let turn = c .before .before .before in
+    stored-room _ _ _ _ (turn .before .before .before .pre .room) (turn .loop .inv) (c .before .before .loop-test .taken)
 
 add-done : tie.Need-add-done Inv-loop μ-loop
 add-done c = search needs

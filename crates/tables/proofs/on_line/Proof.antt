@@ -2,7 +2,7 @@
 use Prim.Native.Nat.{_^_, _<_}
 use native.Mathlib.Omega.{arith}
 use borrow.Author.Needs.{needs}
-use Rattle.tables.specs.Lines.{weighed}
+use Rattle.tables.specs.Tables.{weighed}
 use Rattle.tables.proofs.Weights.{weighed-fits, product-fits}
 use Rattle.tables.proofs.on_line.Statement.{statement}
 use Rattle.tables.proofs.on_line.Tie as tie
@@ -41,7 +41,7 @@ add-weighed : tie.Need-add-weighed
 add-weighed c = omega (arith, sum-fits (c .before))
 
 mul-result : tie.Need-mul-result
-mul-result c = record { fits = product-fits (c .before .before .before .before .pre .0) (sum-fits (c .before)) }
+mul-result c = record { fits = product-fits (c .before .before .before .before .pre .unit-fits) (sum-fits (c .before)) }
 
 sub-result : tie.Need-sub-result
 sub-result c = search needs

@@ -12,9 +12,8 @@ use lib.Seq.{drop-cons}
 use Rattle.tables.specs.declared.Row.{Row}
 use Rattle.tables.specs.declared.Table.{Table}
 use Rattle.tables.specs.declared.Table.the-variants.{Scf, Ssf, Mcf, CreepShare, ShrinkageShare}
-use Rattle.tables.specs.Lines.{row, at, atRow, onLine, along, reading}
-use Rattle.tables.specs.Tables.{rowsOf, unitOf, T}
-use Rattle.tables.specs.Tables.{tableReading}
+use Rattle.tables.specs.Tables.{row, at, atRow, onLine, along, reading, rowsOf, unitOf, tableReading}
+use Rattle.ticks.specs.Ticks.{T}
 use Rattle.tables.proofs.table_reading.Statement.{statement}
 use Rattle.tables.proofs.table_reading.Tie as tie
 

@@ -13,7 +13,7 @@ use lib.Ieee.{Float, fin, binary64, mul, round, ofInt, ofBits}
 use lib.Ieee.Back.{round-whole}
 use lib.Ieee.Exact.{HasValue, round-exact}
 use lib.Ieee.Positive.{positive-of-value, mul-at}
-use Rattle.ticks.specs.Doubles.{ticksPerUnit}
+use Rattle.ticks.specs.Ticks.{ticksPerUnit}
 use Rattle.ticks.proofs.double_of_ticks.Statement.{statement}
 use Rattle.ticks.proofs.double_of_ticks.Tie as tie
 

@@ -1,31 +1,21 @@
 -- The two checks are made in the order of their fields. Assumes nothing.
 use mathlib.Core.Path.{refl}
-use borrow.Author.Needs.{needs}
+use Rattle.fields.specs.Quantities.{fieldNumber}
 use Rattle.checks.proofs.Rows.{begins, next}
+use borrow.Author.Needs.{needs}
 use Rattle.checks.proofs.ranges.line_4.Statement.{statement}
 use Rattle.checks.proofs.ranges.line_4.Tie as tie
 
-element-copy-out-first : tie.Need-element-copy-out-first
-element-copy-out-first c = search needs
+ranged-requires : tie.Need-ranged-requires
+ranged-requires c κs = search needs
 
-first-requires : tie.Need-first-requires
-first-requires c κs = search needs
-
-element-copy-out-first-2 : tie.Need-element-copy-out-first-2
-element-copy-out-first-2 c = search needs
-
-first-requires-2 : tie.Need-first-requires-2
-first-requires-2 c κs = search needs
+ranged-requires-2 : tie.Need-ranged-requires-2
+ranged-requires-2 c κs = search needs
 
 returns : tie.Need-returns
-returns c = next 22 tt (next 21 tt begins refl (c .before .before .first .ensures)) refl (c .first2 .ensures) .same
+returns c =
+    let wobble = next (fieldNumber .wobble) tt begins refl (c .before .ranged .ensures) in
+    next (fieldNumber .curvature) tt wobble refl (c .ranged2 .ensures) .same
 
 pub line-4-spec : {M : Type 1} → statement M
-line-4-spec =
-    tie.close
-    (tie.spec
-    element-copy-out-first
-    first-requires
-    element-copy-out-first-2
-    first-requires-2
-    returns)
+line-4-spec = tie.close (tie.spec ranged-requires ranged-requires-2 returns)

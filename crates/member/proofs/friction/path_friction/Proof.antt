@@ -4,23 +4,22 @@ use mathlib.Core.Path.{_≡_}
 use mathlib.Core.List.{List, _∷_}
 use Prim.Native.Nat.{ℕ, _+_, _-_, _*_, _≤_, _<_}
 use native.Mathlib.Nat.{zero-add}
-use native.Mathlib.Omega.{arith}
-use Rattle.fields.specs.Layout.{mostSegments}
-use Rattle.fields.specs.Quantities.{Segment, wobble, curvature}
-use Rattle.member.specs.Friction.{wobblePart, curvaturePart, pathFriction}
-use Rattle.member.specs.Member.{frictionOf}
-use Rattle.member.specs.Facts.{SegmentFits, SegmentsFit, segment-fits, PathFits, mostPart}
+use Rattle.fields.specs.Quantities.{Segment, segmentsFrom}
+use Rattle.fields.specs.Limits.{mostSegments}
 use Rattle.checks.proofs.Items.{leftSegments, segmentAt, all-segments, next-segment, no-segment}
+use Rattle.member.specs.Constants.{wobblePart, curvaturePart, pathFriction}
+use Rattle.member.specs.Facts.{SegmentFits, SegmentsFit, segment-fits, PathFits, mostPart, AtMost}
+use native.Mathlib.Omega.{arith}
 use Rattle.member.proofs.friction.path_friction.Statement.{statement}
 use Rattle.member.proofs.friction.path_friction.Tie as tie
 
 -- up to the segment `k`: the sum so far and the friction of the segments left make the whole
-record Walked (fields : List ℕ) (n friction k : ℕ) : Type 0 where
+record Walked (list : List ℕ) (n wobble curvature friction k : ℕ) : Type 0 where
   passed : k ≤ n
   most : n ≤ mostSegments
   small : friction ≤ 2 * mostPart * k
-  fit : SegmentsFit (leftSegments fields n k)
-  same : friction + pathFriction (wobble fields) (curvature fields) (leftSegments fields n k) ≡ frictionOf n fields
+  fit : SegmentsFit (leftSegments list n k)
+  same : friction + pathFriction wobble curvature (leftSegments list n k) ≡ pathFriction wobble curvature (segmentsFrom n list)
 
 first-fits : {segment : Segment} {segments : List Segment} → SegmentsFit (segment ∷ segments) → SegmentFits segment
 first-fits (segment-fits first later) = first
@@ -28,73 +27,59 @@ first-fits (segment-fits first later) = first
 later-fit : {segment : Segment} {segments : List Segment} → SegmentsFit (segment ∷ segments) → SegmentsFit segments
 later-fit (segment-fits first later) = later
 
-starts : (fields : List ℕ) (n : ℕ) → PathFits n fields → Walked fields n 0 0
-starts fields n path = record {
+starts : (list : List ℕ) (n wobble curvature : ℕ) → PathFits wobble curvature n list → Walked list n wobble curvature 0 0
+starts list n wobble curvature path = record {
   passed = omega arith;
   most = path .segments-most;
   small = omega arith;
-  fit = rw (← all-segments fields n) (path .segments-fit);
-  same = rw (← all-segments fields n) (zero-add (frictionOf n fields));
+  fit = rw (← all-segments list n) (path .segments-fit);
+  same = rw (← all-segments list n) (zero-add (pathFriction wobble curvature (segmentsFrom n list)));
 }
 
-module _ {fields : List ℕ} {n friction k : ℕ} (w : Walked fields n friction k) where
+module _ {list : List ℕ} {n wobble curvature friction k : ℕ} (w : Walked list n wobble curvature friction k) where
   module _ (h : k < n) where
-    rest : SegmentsFit (segmentAt fields k ∷ leftSegments fields n (k + 1))
-    rest = rw (next-segment fields n k h) at (w .fit)
+    rest : SegmentsFit (segmentAt list k ∷ leftSegments list n (k + 1))
+    rest = rw (next-segment list n k h) at (w .fit)
 
-    here : SegmentFits (segmentAt fields k)
+    here : SegmentFits (segmentAt list k)
     here = first-fits rest
 
-    walks : {wobbling curving : ℕ}
-        → (wobbling ≡ wobblePart (wobble fields) (segmentAt fields k)) × (wobbling ≤ mostPart)
-        → (curving ≡ curvaturePart (curvature fields) (segmentAt fields k)) × (curving ≤ mostPart)
-        → Walked fields n (friction + wobbling + curving) (k + 1)
+    walks : {wobbling curving : ℕ} → AtMost mostPart (wobblePart wobble (segmentAt list k)) wobbling
+        → AtMost mostPart (curvaturePart curvature (segmentAt list k)) curving
+        → Walked list n wobble curvature (friction + wobbling + curving) (k + 1)
     unfolding pathFriction
     walks {wobbling} {curving} p q = record {
       passed = omega arith;
       most = w .most;
-      small = let s = w .small in omega (arith, p .1, q .1);
+      small = let s = w .small in omega (arith, p .most, q .most);
       fit = later-fit rest;
-      same =
-          let whole = rw (next-segment fields n k h) at (w .same) in
-          let one = p .0 in
-          let other = q .0 in
-          omega (arith, whole, one, other);
+      same = let whole = rw (next-segment list n k h) at (w .same) in omega (arith, whole, p .is, q .is);
     }
 
-  arrives : n ≤ k → friction ≡ frictionOf n fields
+  arrives : n ≤ k → friction ≡ pathFriction wobble curvature (segmentsFrom n list)
   unfolding pathFriction
-  arrives h = let whole = rw (no-segment fields n k h) at (w .same) in omega (arith, whole)
+  arrives h = let whole = rw (no-segment list n k h) at (w .same) in omega (arith, whole)
 
 abbrev Inv-loop : tie.InvT-loop
-Inv-loop fields segments wobble curvature friction₀ segment₀ friction segment =
-    Walked fields segments friction segment
+Inv-loop part segments wobble curvature friction₀ segment₀ friction segment =
+    Walked part segments wobble curvature friction segment
 
 abbrev μ-loop : tie.MeasureT-loop
-μ-loop fields segments wobble curvature friction₀ segment₀ friction segment = segments - segment
-
-element-copy-out-wobble : tie.Need-element-copy-out-wobble Inv-loop μ-loop
-element-copy-out-wobble c = omega arith
-
-element-copy-out-curvature : tie.Need-element-copy-out-curvature Inv-loop μ-loop
-element-copy-out-curvature c = omega arith
+μ-loop part segments wobble curvature friction₀ segment₀ friction segment = segments - segment
 
 loop-holds : tie.Need-loop-holds Inv-loop μ-loop
 loop-holds c =
-    let start = c .before .before in
-    starts (start .args .fields .now) (start .args .segments) (start .pre)
+    let args = c .before .args in
+    starts (args .part .now) (args .segments) (args .wobble) (args .curvature) (c .before .pre)
 
 mul-at : tie.Need-mul-at Inv-loop μ-loop
 mul-at c = omega arith
 
-add-at : tie.Need-add-at Inv-loop μ-loop
-add-at c = omega arith
-
 mul-kind : tie.Need-mul-kind Inv-loop μ-loop
 mul-kind c = omega arith
 
-element-copy-out-kind : tie.Need-element-copy-out-kind Inv-loop μ-loop
-element-copy-out-kind c = omega arith
+shared-slice-read-kind : tie.Need-shared-slice-read-kind Inv-loop μ-loop
+shared-slice-read-kind c = omega arith
 
 add-length : tie.Need-add-length Inv-loop μ-loop
 add-length c = omega arith
@@ -102,8 +87,8 @@ add-length c = omega arith
 mul-length : tie.Need-mul-length Inv-loop μ-loop
 mul-length c = omega arith
 
-element-copy-out-length : tie.Need-element-copy-out-length Inv-loop μ-loop
-element-copy-out-length c = omega arith
+shared-slice-read-length : tie.Need-shared-slice-read-length Inv-loop μ-loop
+shared-slice-read-length c = omega arith
 
 add-rise : tie.Need-add-rise Inv-loop μ-loop
 add-rise c = omega arith
@@ -111,13 +96,16 @@ add-rise c = omega arith
 mul-rise : tie.Need-mul-rise Inv-loop μ-loop
 mul-rise c = omega arith
 
-element-copy-out-rise : tie.Need-element-copy-out-rise Inv-loop μ-loop
-element-copy-out-rise c = omega arith
+shared-slice-read-rise : tie.Need-shared-slice-read-rise Inv-loop μ-loop
+shared-slice-read-rise c = omega arith
 
 wobble-part-requires : tie.Need-wobble-part-requires Inv-loop μ-loop
 wobble-part-requires c κs =
     let turned = c .before .before .before in
-    (turned .before .before .before .before .pre .wobble-most, here (turned .before .loop .inv) (turned .loop-test .taken))
+    record {
+      factor-most = turned .before .before .before .pre .wobble-most;
+      segment-fits = here (turned .before .loop .inv) (turned .loop-test .taken);
+    }
 
 add-friction : tie.Need-add-friction Inv-loop μ-loop
 add-friction c = omega arith
@@ -125,7 +113,10 @@ add-friction c = omega arith
 curvature-part-requires : tie.Need-curvature-part-requires Inv-loop μ-loop
 curvature-part-requires c κs =
     let turned = c .before .before .before .before in
-    (turned .before .before .before .before .pre .curvature-most, here (turned .before .loop .inv) (turned .loop-test .taken))
+    record {
+      factor-most = turned .before .before .before .pre .curvature-most;
+      segment-fits = here (turned .before .loop .inv) (turned .loop-test .taken);
+    }
 
 add-friction-2 : tie.Need-add-friction-2 Inv-loop μ-loop
 add-friction-2 c = omega arith
@@ -150,19 +141,16 @@ path-friction-spec =
     (tie.spec
     Inv-loop
     μ-loop
-    element-copy-out-wobble
-    element-copy-out-curvature
     loop-holds
     mul-at
-    add-at
     mul-kind
-    element-copy-out-kind
+    shared-slice-read-kind
     add-length
     mul-length
-    element-copy-out-length
+    shared-slice-read-length
     add-rise
     mul-rise
-    element-copy-out-rise
+    shared-slice-read-rise
     wobble-part-requires
     add-friction
     curvature-part-requires

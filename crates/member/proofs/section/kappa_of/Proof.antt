@@ -3,15 +3,20 @@ use Prim.Native.Nat.{_*_, _≤_}
 use native.Mathlib.Nat.{mul-le-mul, div-le-self}
 use native.Mathlib.Omega.{arith}
 use borrow.Author.Needs.{needs}
+use Rattle.fields.specs.Limits.{range}
+use Rattle.member.specs.Constants.{kappaUnit, kappaOfSquares}
 use Rattle.member.proofs.section.kappa_of.Statement.{statement}
 use Rattle.member.proofs.section.kappa_of.Tie as tie
 
-squared : (c : tie.Start) → c .args .eccentricity * c .args .eccentricity ≤ 65536 * 65536
+squared : (c : tie.Start) → c .args .eccentricity * c .args .eccentricity ≤ range .eccentricity .high * range .eccentricity .high
 squared c = mul-le-mul (c .pre .eccentricity-most) (c .pre .eccentricity-most)
 
 bent : (c : tie.Start)
-    → 4096 * c .args .steel-area * (c .args .eccentricity * c .args .eccentricity) ≤ 4096 * 65536 * (65536 * 65536)
-bent c = let steel : 4096 * c .args .steel-area ≤ 4096 * 65536 = omega arith in mul-le-mul steel (squared c)
+    → kappaOfSquares * c .args .steel-area * (c .args .eccentricity * c .args .eccentricity)
+    ≤ kappaOfSquares * range .steelArea .high * (range .eccentricity .high * range .eccentricity .high)
+bent c =
+    let steel : kappaOfSquares * c .args .steel-area ≤ kappaOfSquares * (range .steelArea .high) = omega arith in
+    mul-le-mul steel (squared c)
 
 mul-axial : tie.Need-mul-axial
 mul-axial c = search needs
@@ -36,8 +41,8 @@ add-result c =
     omega (
       arith,
       bent c,
-      div-le-self (c .args .steel-area * 4294967296) (c .args .area),
-      div-le-self (4096 * c .args .steel-area * (c .args .eccentricity * c .args .eccentricity)) (c .args .inertia),
+      div-le-self (c .args .steel-area * kappaUnit) (c .args .area),
+      div-le-self (kappaOfSquares * c .args .steel-area * (c .args .eccentricity * c .args .eccentricity)) (c .args .inertia),
     )
 
 returns : tie.Need-returns

@@ -1,9 +1,10 @@
 -- The most that the two coefficients can be bounds their product. Assumes nothing.
-use Prim.Native.Nat.{_≤_}
-use native.Mathlib.Nat.{mul-le-mul}
+use mathlib.Core.Path.{_≡_}
+use Prim.Native.Nat.{_*_}
 use native.Mathlib.Omega.{arith}
 use borrow.Author.Needs.{needs}
-use Rattle.coefficient.proofs.Laws.{ush-range, ssf-range}
+use Rattle.coefficient.specs.Coefficients.{ush, ssf}
+use Rattle.member.proofs.Bounds.{products, shrinkage-product}
 use Rattle.member.proofs.section.whole_shrinkage.Statement.{statement}
 use Rattle.member.proofs.section.whole_shrinkage.Tie as tie
 
@@ -16,11 +17,11 @@ ssf-of-requires c κs = search needs
 mul-result : tie.Need-mul-result
 mul-result c =
     let args = c .before .before .args in
-    let ush : c .before .ush-of .result ≤ 41000000000 =
-    omega (arith, c .before .ush-of .ensures, ush-range (args .concrete) (args .ec))
+    let same : c .before .ush-of .result * c .ssf-of .result
+    ≡ ush (args .concrete) (args .ec) * ssf (args .volume-to-surface) =
+    products (c .before .ush-of .ensures) (c .ssf-of .ensures)
     in
-    let ssf : c .ssf-of .result ≤ 106496 = omega (arith, c .ssf-of .ensures, ssf-range (args .volume-to-surface)) in
-    omega (arith, mul-le-mul ush ssf)
+    omega (arith, same, shrinkage-product (args .concrete) (args .ec) (args .volume-to-surface))
 
 returns : tie.Need-returns
 returns c = rw (c .ssf-of .ensures, c .before .ush-of .ensures)

@@ -2,7 +2,7 @@
 use borrow.Author.Needs.{needs}
 use mathlib.Core.Path.{ap}
 use native.Mathlib.Omega.{arith}
-use Rattle.coefficient.specs.Clocks.{sinceTensioning}
+use Rattle.coefficient.specs.Coefficients.{sinceTensioning}
 use Rattle.stages.proofs.Beginning.{relaxes-early, relaxes-late}
 use Rattle.stages.proofs.Clocks.{logarithm-most}
 use Rattle.stages.proofs.before.early_relaxation.Statement.{statement}

@@ -5,8 +5,8 @@ use native.Mathlib.Omega.{arith}
 use Rattle.stages.proofs.before.shortening.Statement.{statement}
 use Rattle.stages.proofs.before.shortening.Tie as tie
 use Rattle.stages.specs.declared.ends.End.{End}
-use Rattle.steps.proofs.Laws.{concrete-most}
-use Rattle.steps.specs.Conditions.{ConcreteFits}
+use Rattle.formulas.proofs.Laws.{concrete-most}
+use Rattle.formulas.specs.Conditions.{ConcreteFits}
 
 concrete-stress-requires : tie.Need-concrete-stress-requires
 concrete-stress-requires c κs = search needs

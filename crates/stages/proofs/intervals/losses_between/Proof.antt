@@ -4,8 +4,8 @@ use borrow.Author.Needs.{needs}
 use Prim.Native.Nat.{_<_}
 use Rattle.stages.proofs.intervals.losses_between.Statement.{statement}
 use Rattle.stages.proofs.intervals.losses_between.Tie as tie
-use Rattle.steps.proofs.Laws.{concrete-most}
-use Rattle.steps.specs.Conditions.{stressLimit, ConcreteFits}
+use Rattle.formulas.proofs.Laws.{concrete-most}
+use Rattle.formulas.specs.Conditions.{stressLimit, ConcreteFits}
 
 concrete-stress-requires : tie.Need-concrete-stress-requires
 concrete-stress-requires c κs = search needs

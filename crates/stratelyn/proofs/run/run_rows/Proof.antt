@@ -1,4 +1,4 @@
--- The lent parts have the host's room, up to 256 numbers, which is enough for every run. Assumes nothing.
+-- The lent parts have the host's room, up to what the most ages need. Assumes nothing.
 use mathlib.Core.Path.{sym, _∙_}
 use lib.Dec.{lit≤}
 use lib.Seq.{length-take-le}
@@ -18,13 +18,13 @@ slice-relend-prefix-run-fields c = search needs
 
 slice-aggregate-run-fields : tie.Need-slice-aggregate-run-fields
 slice-aggregate-run-fields c =
-    sym (length-take-le _ _ (room-within _ (c .before .before .room-up-to .ensures) (c .before .before .before .before .pre .rows-room)))
+    sym (length-take-le _ _ (room-within _ _ (c .before .before .room-up-to .ensures) (c .before .before .before .before .pre .rows-room)))
 
 array-borrow-prefix-scratch : tie.Need-array-borrow-prefix-scratch
 array-borrow-prefix-scratch c = search needs
 
 slice-aggregate-run-fields-2 : tie.Need-slice-aggregate-run-fields-2
-slice-aggregate-run-fields-2 c = sym (length-take-le _ _ (room-within _ (c .before .before .room-up-to2 .ensures) (lit≤ tt)))
+slice-aggregate-run-fields-2 c = sym (length-take-le _ _ (room-within _ _ (c .before .before .room-up-to2 .ensures) (lit≤ tt)))
 
 run-fields-requires : tie.Need-run-fields-requires
 run-fields-requires c κs = search needs
@@ -38,9 +38,9 @@ returns c =
     let lent = ran .before .before in
     let reached = lent .before .before in
     let start = reached .before .before in
-    let rows-fit = room-within _ (reached .room-up-to .ensures) (start .pre .rows-room) in
-    let scratch-fit = room-within _ (lent .before .room-up-to2 .ensures) (lit≤ tt) in
-    rowed _ _ _ _ _ (start .pre .readable .ages-most) _ _ _ _ _
+    let rows-fit = room-within _ _ (reached .room-up-to .ensures) (start .pre .rows-room) in
+    let scratch-fit = room-within _ _ (lent .before .room-up-to2 .ensures) (lit≤ tt) in
+    rowed _ _ _ (start .pre .readable) _ _ _ _ _ _ _
     (length-take-le _ _ rows-fit ∙ reached .room-up-to .ensures)
     (length-take-le _ _ scratch-fit ∙ lent .before .room-up-to2 .ensures)
     (ran .run-fields .ensures)

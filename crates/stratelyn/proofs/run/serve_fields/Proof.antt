@@ -1,28 +1,29 @@
--- A refusal leaves the report; an accepted run's rows are the first numbers of the array, four for each age, and the report has
+-- A refusal leaves the report; an accepted run's rows are the first numbers of the array, a row for each age, and the report has
 -- room for them. Assumes nothing.
 use mathlib.Core.Path.{sym}
 use mathlib.Core.List.{List}
-use Prim.Native.Nat.{ℕ, _*_, _≤_}
+use Prim.Native.Nat.{ℕ, _≤_}
 use native.Mathlib.Omega.{arith}
 use borrow.Author.Needs.{needs}
 use denote.Ref.{now}
 use lib.Dec.{lit≤}
 use lib.ListN.{length}
 use lib.Seq.{length-take-le}
-use Rattle.fields.specs.declared.refusal.Reading.the-variants.{Fields}
-use Rattle.losses.specs.declared.Answer.the-variants.{Accepted}
-use Rattle.stages.specs.Run.{Result, resultOfReading}
-use Rattle.checks.specs.Rows.{perRow}
+use Rattle.entries.specs.declared.Answer.the-variants.{Accepted}
+use Rattle.fields.specs.Outcomes.{OrRefusal}
+use Rattle.fields.specs.Quantities.{quantitiesOf}
+use Rattle.stages.specs.Run.{Report, resultOf}
+use Rattle.fields.specs.Limits.{reportRoom}
 use Rattle.numbers.specs.Numbers.{room}
-use Rattle.stratelyn.specs.Parts.{Rowed}
+use Rattle.stratelyn.specs.Conditions.{Rowed}
 use Rattle.stratelyn.proofs.Hosting.{run-refused, run-finite, run-room, run-accepted}
 use Rattle.stratelyn.proofs.run.serve_fields.Statement.{statement}
 use Rattle.stratelyn.proofs.run.serve_fields.Tie as tie
 
 -- what the run of the rows gives
-abbrev result : tie.Start → Result
+abbrev result : tie.Start → OrRefusal Report
 result start =
-    resultOfReading (Fields (start .args .segments) (start .args .ages)) (now (start .args .fields))
+    resultOf (quantitiesOf (start .args .segments) (start .args .ages) (now (start .args .fields)))
     (room (length (now (start .args .report)))) (room (start .args .scratch-bytes))
 
 abbrev rows : tie.After-run-rows → List ℕ
@@ -35,7 +36,7 @@ rowed : (c : tie.After-known-told2) → let ran = c .before .before .before .bef
 rowed c = rw (c .before .given .given .1) at (c .before .before .before .before .run-rows .ensures)
 
 count-within : (c : tie.After-known-told2) → let ran = c .before .before .before .before in
-    perRow * ran .before .before .before .before .args .ages ≤ length (rows ran)
+    reportRoom (ran .before .before .before .before .args .ages) ≤ length (rows ran)
 count-within c =
     let ran = c .before .before .before .before in
     let most = ran .before .before .before .before .pre .readable .ages-most in

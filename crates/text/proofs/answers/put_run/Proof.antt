@@ -1,6 +1,6 @@
 -- What the answer prints is what the run's result does: a refusal's line, or the line before the ages and theirs behind it. Assumes
 -- nothing.
-use Rattle.checks.specs.Rows.{mostNumbers}
+use Rattle.entries.proofs.Closeness.{close}
 use Rattle.text.proofs.Laying.{counted}
 use Rattle.text.proofs.Texts.{holds-then, ages-fit, refusal-printed, run-printed}
 use borrow.Author.Needs.{needs}
@@ -67,8 +67,10 @@ returns-2 c =
     let put = c .before .before .before .before .before .before .before in
     let told = put .before .before in
     let ran = told .before .before .before .before .before in
+    let start = ran .before .before .before .before in
     let is = rw (told .before .reply .given .1) at (ran .run-fields .ensures) in
-    run-printed _ _ _ mostNumbers (is .answered) (is .report-is)
+    let close-run = close _ _ _ (start .pre .readable .segments-most) (start .pre .readable .ages-most) _ _ in
+    run-printed _ _ _ _ (λ given gives. close-run given gives .linked .rows-count) (is .answered) (is .report-is)
     (holds-then (put .put-before .ensures) (c .before .before .put-ages .ensures))
 
 pub put-run-spec : {M : Type 1} → statement M

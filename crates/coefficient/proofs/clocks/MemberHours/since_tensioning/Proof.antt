@@ -5,7 +5,7 @@ use Prim.Native.Nat.{ℕ}
 use native.Mathlib.Omega.{arith}
 use borrow.Author.Needs.{needs}
 use Rattle.coefficient.specs.declared.clocks.HoursSinceTensioning.{HoursSinceTensioning}
-use Rattle.coefficient.specs.Clocks.{tensioning}
+use Rattle.coefficient.specs.Coefficients.{tensioning}
 use Rattle.coefficient.proofs.clocks.MemberHours.since_tensioning.Statement.{statement}
 use Rattle.coefficient.proofs.clocks.MemberHours.since_tensioning.Tie as tie
 

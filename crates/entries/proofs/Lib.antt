@@ -1,0 +1,9 @@
+pub mod Deciding
+pub mod Doubles
+pub mod Readers
+pub mod Padding
+mod Accepting
+mod Answering
+mod BufferRows
+pub mod Closeness
+mod Running

@@ -1,0 +1,4 @@
+pub mod Answers
+pub mod RunAges
+pub mod Conditions
+pub mod Promise

@@ -1,9 +1,0 @@
-pub mod Deciding
-pub mod Doubles
-pub mod Readers
-pub mod Padding
-mod Accepting
-mod Answering
-mod BufferRows
-mod Closeness
-mod Running

@@ -1,0 +1,29 @@
+-- It serves the code alone. What the code of the checks answers, and what it knows and has computed on its way down the rows.
+use Prim.Native.Nat.{ℕ}
+use mathlib.Core.Path.{_≡_}
+use mathlib.Core.List.{List}
+use Rattle.fields.specs.Outcomes.{OrRefusal, Gives, Refuses}
+use Rattle.fields.specs.Quantities.{quantitiesOf}
+use Rattle.checks.specs.Readable.{Readable}
+use Rattle.checks.specs.Places.{headOf}
+use Rattle.member.specs.declared.Member.{Member}
+use Rattle.member.specs.declared.Checked.{Checked}
+use Rattle.member.specs.Member.{frictionOf, kappaOf, creepOf}
+use Rattle.member.specs.Facts.{HeadFits}
+
+abbrev pub checked : Checked → OrRefusal Member
+checked (Checked.Accepted m) = Gives m
+checked (Checked.Refused refusal) = Refuses refusal
+
+-- what is known where the rows from codes to duct hold
+pub record BelowDuct (segments ages friction : ℕ) (fields : List ℕ) : Type 0 where
+  pub readable : Readable segments ages fields
+  pub head : HeadFits (headOf fields)
+  pub friction-is : friction ≡ frictionOf (quantitiesOf segments ages fields)
+
+-- what a member is made of, beside its fields
+pub record Computed (segments ages friction kappa creep : ℕ) (fields : List ℕ) : Type 0 where
+  pub head : HeadFits (headOf fields)
+  pub friction-is : friction ≡ frictionOf (quantitiesOf segments ages fields)
+  pub kappa-is : kappa ≡ kappaOf (headOf fields)
+  pub creep-is : creep ≡ creepOf (headOf fields)
