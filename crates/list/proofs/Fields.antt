@@ -23,8 +23,10 @@ use Rattle.list.proofs.Amounts.{part-at}
 -- a field that is none of the first two
 unless-first-two : (field : ℕ) → (field < fieldNumber .slip) ⊎ (fieldNumber .tendonLength < field)
     → headInTicks field ≡ (leb (fieldNumber .volumeToSurface) field && leb field (fieldNumber .ownWeightMoment))
-unless-first-two field (inl h) = rw (ne-eqb field (fieldNumber .slip) (λ e. omega arith), ne-eqb field (fieldNumber .tendonLength) (λ e. omega arith))
-unless-first-two field (inr h) = rw (ne-eqb field (fieldNumber .slip) (λ e. omega arith), ne-eqb field (fieldNumber .tendonLength) (λ e. omega arith))
+unless-first-two field (inl h) =
+    rw (ne-eqb field (fieldNumber .slip) (λ e. omega arith), ne-eqb field (fieldNumber .tendonLength) (λ e. omega arith))
+unless-first-two field (inr h) =
+    rw (ne-eqb field (fieldNumber .slip) (λ e. omega arith), ne-eqb field (fieldNumber .tendonLength) (λ e. omega arith))
 
 section-in-ticks : (field : ℕ) → fieldNumber .area ≤ field → field ≤ fieldNumber .ownWeightMoment → headInTicks field ≡ true
 section-in-ticks field low high =
@@ -46,7 +48,8 @@ others-in-ticks field (inr h) = by-slip (eqb field (fieldNumber .slip)) refl
         omega arith in
         rw other
 
-pub head-whole : (field : ℕ) → (field < fieldNumber .slip) ⊎ (((fieldNumber .cure ≤ field) × (field < fieldNumber .volumeToSurface)) ⊎ (fieldNumber .endOfCuring ≤ field))
+pub head-whole : (field : ℕ) → (field < fieldNumber .slip)
+    ⊎ (((fieldNumber .cure ≤ field) × (field < fieldNumber .volumeToSurface)) ⊎ (fieldNumber .endOfCuring ≤ field))
     → headInTicks field ≡ false
 head-whole field (inl h) = unless-first-two field (inl h) ∙ rw (lt-leb (fieldNumber .volumeToSurface) field (omega arith))
 head-whole field (inr (inl h)) =

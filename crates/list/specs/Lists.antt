@@ -28,7 +28,8 @@ amountIn false x = wholeIn x
 -- "Kept in ticks: fields 6, 7, 13 to 18, a segment's length and rise (feet) and angle (radians), every moment."
 abbrev pub headInTicks : ℕ → Bool
 headInTicks field =
-    eqb field (fieldNumber .slip) || eqb field (fieldNumber .tendonLength) || (leb (fieldNumber .volumeToSurface) field && leb field (fieldNumber .ownWeightMoment))
+    eqb field (fieldNumber .slip) || eqb field (fieldNumber .tendonLength)
+    || (leb (fieldNumber .volumeToSurface) field && leb field (fieldNumber .ownWeightMoment))
 
 -- of a segment's field, so many fields behind the head; and of an age's, behind the segments
 abbrev pub segmentInTicks : ℕ → Bool

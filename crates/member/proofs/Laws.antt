@@ -159,7 +159,8 @@ head-fits q h =
     let kinds = not (isPretensioned q) || until in
     let curing = and-eq-true-iff (most && kinds) (not (isMoist q) || short) .0 (h .curing) in
     let before = and-eq-true-iff most kinds .0 (curing .0) in
-    let transferred = in-range (cond (isMoist q) leastMoistTransfer (range .transfer .low)) (range .transfer .high) (q .transfer) (h .transferred) in
+    let earliest = cond (isMoist q) leastMoistTransfer (range .transfer .low) in
+    let transferred = in-range earliest (range .transfer .high) (q .transfer) (h .transferred) in
     record {
       kind-least = kind .0;
       kind-most = kind .1;

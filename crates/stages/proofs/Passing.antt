@@ -1,5 +1,6 @@
--- The three losses of an interval fit together, and what is said of its row where it is passed and where it is not. Each share and the logarithms are differences of the interval's ends, no more than what
--- stands at the later, so that every loss has its bounds. Assumes nothing.
+-- The three losses of an interval fit together, and what is said of its row where it is passed and where it is not. Each share and the
+-- logarithms are differences of the interval's ends, no more than what stands at the later, so that every loss has its bounds. Assumes
+-- nothing.
 use mathlib.Core.Path.{_≡_}
 use mathlib.Core.Bool.{true}
 use Prim.Native.Nat.{ℕ, _-_, _^_, _≤_, _<_}

@@ -3,7 +3,7 @@
 use mathlib.Core.Path.{_≡_, refl}
 use mathlib.Core.List.{List}
 use Prim.Native.Nat.{ℕ, _≤_, _<_}
-use borrow.Author.Tests.{lt-ltb, le-ltb}
+use native.Mathlib.Omega.{arith}
 use lib.ListN.{length, replicate}
 use Rattle.fields.specs.declared.refusal.Reading.{Reading}
 use Rattle.fields.specs.declared.refusal.Reading.the-variants.{Fields}
@@ -22,7 +22,8 @@ module _ (outcome : Outcome)
   pub unserved : (report scratch reply : List ℕ) → length reply < replyBytes
       → Served outcome 10 report report scratch scratch reply reply
   unserved report scratch reply h = record {
-    exact = rw (lt-ltb (length reply) replyBytes h) (record { number-is = refl; reply-kept = refl; report-kept = refl });
+    short = λ _. record { number-is = refl; reply-kept = refl; report-kept = refl };
+    exact = λ enough. absurd (omega arith);
     scratch-kept = refl;
     close = all-close outcome counted _ _;
   }
@@ -34,9 +35,8 @@ module _ (outcome : Outcome)
         report reportWas reply replyWas
         → Served outcome returned report reportWas scratch scratch reply replyWas
     served reportWas scratch replyWas h hosted = record {
-      exact =
-          rw (le-ltb (length replyWas) replyBytes h)
-          (rw (same-read outcome counted reading fields same is) at hosted);
+      short = λ few. absurd (omega arith);
+      exact = λ _. rw (same-read outcome counted reading fields same is) at hosted;
       scratch-kept = refl;
       close = all-close outcome counted _ _;
     }

@@ -1,10 +1,8 @@
 -- The promise rests on it. What a C host gets: document 01, "The card", from "Each entry is also offered to C hosts" on. The number, the
 -- values and the rows are those of the native promise, in a host's bytes.
-use Prim.Native.Nat.{ℕ}
+use Prim.Native.Nat.{ℕ, _≤_, _<_}
 use mathlib.Core.Path.{_≡_}
-use mathlib.Core.Bool.{Bool, true, false}
 use mathlib.Core.List.{List}
-use lib.Dec.{ltb}
 use lib.Ieee.{binary64, toBits, ofBits}
 use lib.ListN.{length}
 use Rattle.fields.specs.Outcomes.{Outcome, OrRefusal, Gives, Refuses}
@@ -30,23 +28,16 @@ pub record Hosted (result : OrRefusal Report) (returned : ℕ) (report reportWas
 abbrev pub replyBytes : ℕ
 replyBytes = 64
 
-abbrev pub short : List ℕ → Bool
-short reply = ltb (length reply) replyBytes
-
 -- "gives 10 before all other checks, with nothing written"
 pub record Unserved (returned : ℕ) (report reportWas reply replyWas : List ℕ) : Type 0 where
   pub number-is : returned ≡ 10
   pub reply-kept : reply ≡ replyWas
   pub report-kept : report ≡ reportWas
 
-abbrev pub HostedIf : Bool → OrRefusal Report → ℕ → List ℕ → List ℕ → List ℕ → List ℕ → Type 0
-HostedIf true result returned report reportWas reply replyWas = Unserved returned report reportWas reply replyWas
-HostedIf false result returned report reportWas reply replyWas = Hosted result returned report reportWas reply replyWas
-
 -- what an entry for C hosts promises, for every input: demands 2 and 3, and that the scratch, which serves for its room, stays as it is
 pub record Served (outcome : Outcome) (returned : ℕ) (report reportWas scratch scratchWas reply replyWas : List ℕ) : Type 0 where
-  pub exact :
-      HostedIf (short replyWas) (resultRead outcome (room (length reportWas)) (room (length scratchWas)))
-      returned report reportWas reply replyWas
+  pub short : length replyWas < replyBytes → Unserved returned report reportWas reply replyWas
+  pub exact : replyBytes ≤ length replyWas
+      → Hosted (resultRead outcome (room (length reportWas)) (room (length scratchWas))) returned report reportWas reply replyWas
   pub scratch-kept : scratch ≡ scratchWas
   pub close : CloseIfAccepted outcome (room (length reportWas)) (room (length scratchWas))

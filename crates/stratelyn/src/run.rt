@@ -122,7 +122,8 @@ pub(crate) fn serve(
 ) -> u64
     requires { ⌜ Servable reading (now fields) (now reply) ⌝ }
     ensures { λ r. ⌜ Hosted (onward (quantitiesIn reading (now (fields .entry)))
-        (λ q. resultOf q (room (length (now (report .entry)))) (room «scratch_bytes»))) r (now (report .exit)) (now (report .entry)) (now (reply .exit)) (now (reply .entry)) ⌝ }
+        (λ q. resultOf q (room (length (now (report .entry)))) (room «scratch_bytes»)))
+        r (now (report .exit)) (now (report .entry)) (now (reply .exit)) (now (reply .entry)) ⌝ }
 {
     match reading {
         Reading::Not(refusal) => refuse(refusal, reply),

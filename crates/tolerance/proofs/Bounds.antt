@@ -27,7 +27,9 @@ shrinkageError = partError mostShrinkage
 
 pub creep-rounded : (q : Quantities) → Rounded (whole 1) (creepOf q) (wholeCreep q)
 creep-rounded q =
-    floor-rounded (ucr (cureOf (q .cure)) (concreteOf (q .concrete)) (q .Ec) * scf (q .volumeToSurface) * mcf (cureOf (q .cure)) (q .transfer)) creepDivisor
+    floor-rounded
+    (ucr (cureOf (q .cure)) (concreteOf (q .concrete)) (q .Ec) * scf (q .volumeToSurface) * mcf (cureOf (q .cure)) (q .transfer))
+    creepDivisor
     (lit< tt)
 
 pub shrinkage-rounded : (q : Quantities) → Rounded (whole 1) (shrinkageOf q) (wholeShrinkage q)

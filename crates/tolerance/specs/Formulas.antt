@@ -52,7 +52,8 @@ kappa q =
 -- "U = UCR·SCF·MCF/439,453,125"
 abbrev pub wholeCreep : Quantities → Fraction
 wholeCreep q =
-    (ucr (cureOf (q .cure)) (concreteOf (q .concrete)) (q .Ec) * scf (q .volumeToSurface) * mcf (cureOf (q .cure)) (q .transfer)) ÷ creepDivisor
+    (ucr (cureOf (q .cure)) (concreteOf (q .concrete)) (q .Ec) * scf (q .volumeToSurface) * mcf (cureOf (q .cure)) (q .transfer))
+    ÷ creepDivisor
 
 -- "S = USH·SSF/10^8"
 abbrev pub wholeShrinkage : Quantities → Fraction

@@ -93,7 +93,8 @@ abbrev head-place : tie.Else4 → tie.After-read-lines
 head-place c = c .before .before .before .before .before .before .before .before
 
 counts-read : (c : tie.Else4)
-    → CountsRead (start (head-place c) .args .blank) (now (start (head-place c) .args .card)) (now (start (head-place c) .args .fields)) (buffer (head-place c))
+    → CountsRead (start (head-place c) .args .blank) (now (start (head-place c) .args .card)) (now (start (head-place c) .args .fields))
+    (buffer (head-place c))
 counts-read c = record {
   wrong = head-place c .read-lines .result;
   lines = head-read (head-place c);
@@ -108,7 +109,8 @@ abbrev counts-place : tie.After-read-announced → tie.Else4
 counts-place c = c .before .before .before
 
 tail-read : (c : tie.After-read-announced)
-    → TailRead (start (head-place (counts-place c)) .args .blank) (now (start (head-place (counts-place c)) .args .card)) (buffer (head-place (counts-place c)))
+    → TailRead (start (head-place (counts-place c)) .args .blank) (now (start (head-place (counts-place c)) .args .card))
+    (buffer (head-place (counts-place c)))
     (c .read-announced .result) (c .read-announced .last .1 .1 .1 .1 .0)
 tail-read c = record { read = c .read-announced .ensures }
 

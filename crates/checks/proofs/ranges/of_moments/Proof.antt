@@ -66,7 +66,8 @@ summed c =
     let sum = head .loop .moments + ageAt (args .part .now) (head .loop .age) .moment in
     let fits = c .before .before .moment-fits .ensures in
     let place = args .place + perAge * head .loop .age + 1 in
-    leb-true sum mostMoment (sym fits ∙ passed place (c .before .before .moment-fits .result) (omega arith) (c .before .first .ensures) (c .if1 .left))
+    leb-true sum mostMoment
+    (sym fits ∙ passed place (c .before .before .moment-fits .result) (omega arith) (c .before .first .ensures) (c .if1 .left))
 
 loop-holds : tie.Need-loop-holds Inv-loop μ-loop
 loop-holds c =

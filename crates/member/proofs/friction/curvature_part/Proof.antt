@@ -14,7 +14,8 @@ use Rattle.member.proofs.friction.curvature_part.Tie as tie
 bend-product : (c : tie.Then1) → c .before .args .curvature * c .before .args .rise ≤ range .curvature .high * mostAngle
 bend-product c = mul-le-mul (c .before .pre .factor-most) (c .before .pre .segment-fits .bend-angle (c .if1 .taken))
 
-parabola-product : (c : tie.Then2) → c .before .before .args .curvature * (2 * c .before .before .args .rise) ≤ range .curvature .high * (2 * mostRise)
+parabola-product : (c : tie.Then2)
+    → c .before .before .args .curvature * (2 * c .before .before .args .rise) ≤ range .curvature .high * (2 * mostRise)
 parabola-product c =
     let start = c .before .before in
     let rise = start .pre .segment-fits .rise-most in
