@@ -146,7 +146,7 @@ hours q =
     at (fieldNumber .endOfCuring) (curingFits q) ∷ at (fieldNumber .transfer) (transferFits q)
     ∷ hoursOfAges (firstAgeField (length (q .path))) (q .transfer) (q .ages)
 
--- ---- the rows below have numbered places of their own
+-- ---- the rows of X, of the lent buffers, of κ and of U·κ; the places of the first two are numbers of their own
 
 -- duct: "kind 1 with segments; X over 5,033,164"
 abbrev pub duct : Bool → ℕ → ℕ → List Check

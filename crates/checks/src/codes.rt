@@ -11,7 +11,6 @@ use fields::layout::PER_SEGMENT;
 use fields::layout::from_element;
 use fields::limits::FIRST_CODE;
 use fields::limits::LAST_CODE;
-use fields::limits::LAST_SEGMENT_CODE;
 use fields::limits::MOST_FIELDS;
 use fields::places;
 
@@ -32,7 +31,7 @@ pub fn of_segments(part: &[u64], segments: usize, place: u64) -> u64
     let mut segment = 0usize;
     while segment < segments {
         let at = PER_SEGMENT * segment;
-        let listed = row::in_range(FIRST_CODE, LAST_SEGMENT_CODE, part[at]);
+        let listed = row::in_range(places::STRAIGHT, places::BEND, part[at]);
         let failing = row::first(0, place + at as u64, listed);
         if failing != 0 {
             return failing;

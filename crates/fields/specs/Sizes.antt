@@ -1,4 +1,4 @@
--- It serves the code alone. The sizes of the code's arrays: what the longest card or list needs.
+-- It serves the code and the report program's text alone. The sizes of arrays: what the longest card or list needs.
 use Prim.Native.Nat.{ℕ}
 use Rattle.fields.specs.Quantities.{fieldsIn}
 use Rattle.fields.specs.Limits.{mostSegments, mostAges, reportRoom, scratchRoom}

@@ -11,8 +11,6 @@ pub const FIRST_CODE: u64 = 1;
 
 pub const LAST_CODE: u64 = 2;
 
-pub const LAST_SEGMENT_CODE: u64 = 3;
-
 // ---- Line 1
 
 pub const LEAST_ULTIMATE_STRENGTH: u64 = 100_000;

@@ -38,13 +38,17 @@ relaxationLoss steel ultimateStrength stress logarithms =
 abbrev pub momentStress : ℕ → ℕ → ℕ → ℕ
 momentStress moments eccentricity inertia = moments * eccentricity / inertia
 
+-- the unit of κ
+abbrev pub kappaUnit : ℕ
+kappaUnit = 2 ^ 32
+
 -- "c = f·κ/2^32 − g". A natural difference: 0 where c is negative, and each loss is "0 if c ≤ 0".
 abbrev pub concreteStress : ℕ → ℕ → ℕ → ℕ
-concreteStress stress kappa g = stress * kappa / 2 ^ 32 - g
+concreteStress stress kappa g = stress * kappa / kappaUnit - g
 
 -- "4. Shortening .. loss Es·c/(Eci + Es·κ/2^32), inner part rounded"
 abbrev pub shorteningLoss : ℕ → ℕ → ℕ → ℕ → ℕ
-shorteningLoss es eci kappa c = es * c / (eci + es * kappa / 2 ^ 32)
+shorteningLoss es eci kappa c = es * c / (eci + es * kappa / kappaUnit)
 
 -- "creep W·c/T, W = U·share/T"
 abbrev pub creepLoss : ℕ → ℕ → ℕ → ℕ

@@ -5,14 +5,10 @@ use mathlib.Core.List.{List, [], _∷_}
 use lib.Dec.{eqb}
 use Rattle.ticks.specs.Ticks.{ticksPerUnit, T}
 use Rattle.fields.specs.Quantities.{Segment, parabola, bend, Quantities}
-use Rattle.formulas.specs.Steps.{frictionLoss}
+use Rattle.formulas.specs.Steps.{frictionLoss, kappaUnit}
 use Rattle.coefficient.specs.declared.codes.Cure.{Cure}
 use Rattle.coefficient.specs.declared.codes.Concrete.{Concrete}
 use Rattle.coefficient.specs.Coefficients.{scf, ssf, mcf, ucr, ush}
-
--- the unit of κ
-abbrev pub kappaUnit : ℕ
-kappaUnit = 2 ^ 32
 
 -- what is left of it beside the ticks of e²
 abbrev pub kappaOfSquares : ℕ

@@ -15,7 +15,7 @@ use Rattle.member.specs.Member.{frictionOf, kappaOf, creepOf}
 -- ---- segments
 
 pub record SegmentFits (segment : Segment) : Type 0 where
-  pub kind-least : range .kind .low ≤ segment .kind
+  pub kind-least : straight ≤ segment .kind
   pub kind-most : segment .kind ≤ bend
   pub length-most : segment .length ≤ mostLength
   pub rise-most : segment .rise ≤ mostRise
@@ -76,12 +76,12 @@ pub record AtMost (limit value r : ℕ) : Type 0 where
 pub record HeadFits (q : Quantities) : Type 0 where
   pub kind-least : range .kind .low ≤ q .kind
   pub kind-most : q .kind ≤ range .kind .high
-  pub steel-least : range .kind .low ≤ q .steel
-  pub steel-most : q .steel ≤ range .kind .high
-  pub cure-least : range .kind .low ≤ q .cure
-  pub cure-most : q .cure ≤ range .kind .high
-  pub concrete-least : range .kind .low ≤ q .concrete
-  pub concrete-most : q .concrete ≤ range .kind .high
+  pub steel-least : range .steel .low ≤ q .steel
+  pub steel-most : q .steel ≤ range .steel .high
+  pub cure-least : range .cure .low ≤ q .cure
+  pub cure-most : q .cure ≤ range .cure .high
+  pub concrete-least : range .concrete .low ≤ q .concrete
+  pub concrete-most : q .concrete ≤ range .concrete .high
   pub ultimate-least : range .ultimateStrength .low ≤ q .ultimateStrength
   pub ultimate-most : q .ultimateStrength ≤ range .ultimateStrength .high
   pub jacking-least : range .jackingStress .low ≤ q .jackingStress
@@ -90,11 +90,11 @@ pub record HeadFits (q : Quantities) : Type 0 where
   pub deflector-kind : isPretensioned q ≡ false → q .deflectorLoss ≡ 0
   pub slip-most : q .slip ≤ range .slip .high
   pub length-least : range .tendonLength .low ≤ q .tendonLength
-  pub length-most : q .tendonLength ≤ mostLength
+  pub length-most : q .tendonLength ≤ range .tendonLength .high
   pub es-least : range .Es .low ≤ q .Es
   pub es-most : q .Es ≤ range .Es .high
-  pub eci-least : range .Ec .low ≤ q .Eci
-  pub eci-most : q .Eci ≤ range .Ec .high
+  pub eci-least : range .Eci .low ≤ q .Eci
+  pub eci-most : q .Eci ≤ range .Eci .high
   pub ec-least : range .Ec .low ≤ q .Ec
   pub ec-most : q .Ec ≤ range .Ec .high
   pub volume-to-surface-least : range .volumeToSurface .low ≤ q .volumeToSurface

@@ -8,7 +8,7 @@ use formulas::KAPPA_UNIT;
 use ticks::TICKS_PER_UNIT;
 
 // 4,096: what is left of κ's unit beside the ticks of e².
-const WHOLE_OF_TICKS: u64 = KAPPA_UNIT / (TICKS_PER_UNIT * TICKS_PER_UNIT);
+const KAPPA_OF_SQUARES: u64 = KAPPA_UNIT / (TICKS_PER_UNIT * TICKS_PER_UNIT);
 
 // "U = UCR·SCF·MCF/439,453,125"
 const CREEP_DIVISOR: u64 = 439_453_125;
@@ -21,7 +21,7 @@ pub(crate) fn kappa_of(steel_area: u64, area: u64, eccentricity: u64, inertia: u
     ensures { λ r. ⌜ r ≡ kappa «steel_area» area eccentricity inertia ⌝ }
 {
     let axial = steel_area * KAPPA_UNIT / area;
-    let bending = WHOLE_OF_TICKS * steel_area * (eccentricity * eccentricity) / inertia;
+    let bending = KAPPA_OF_SQUARES * steel_area * (eccentricity * eccentricity) / inertia;
     axial + bending
 }
 

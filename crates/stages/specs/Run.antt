@@ -36,8 +36,8 @@ abbrev pub jacked : Member → ℕ
 jacked m = m .«jacking_stress» * ticksPerUnit
 
 -- "1. Friction .. Loss f·X/T"
-abbrev pub frictionOf : Member → ℕ
-frictionOf m = frictionLoss (jacked m) (m .friction)
+abbrev pub frictionLossOf : Member → ℕ
+frictionLossOf m = frictionLoss (jacked m) (m .friction)
 
 -- "2. Slip"
 abbrev pub slipOf : Member → ℕ
@@ -46,9 +46,9 @@ slipOf m = slipLoss (m .es) (m .slip) (m .length)
 -- friction, slip and the stress after both
 unfoldable pub seated : Member → OrRefusal Seated
 seated m =
-    onward (after beforeAges (jacked m) (frictionOf m)) (λ rubbed.
+    onward (after beforeAges (jacked m) (frictionLossOf m)) (λ rubbed.
     onward (after beforeAges rubbed (slipOf m)) (λ stress.
-    Gives (record { friction = frictionOf m; slip = slipOf m; stress = stress })))
+    Gives (record { friction = frictionLossOf m; slip = slipOf m; stress = stress })))
 
 -- ---- deflector, early relaxation and shortening
 
@@ -82,18 +82,20 @@ shorteningOf m stress =
 unfoldable pub begunOf : Member → OrRefusal BeforeAges
 unfolding seated
 begunOf m =
-    onward (seated m) (λ seated.
-    onward (after beforeAges (seated .stress) (deflectorOf m)) (λ deflected.
+    onward (seated m) (λ anchored.
+    onward (after beforeAges (anchored .stress) (deflectorOf m)) (λ deflected.
     onward (after beforeAges deflected (earlyRelaxationOf m deflected)) (λ relaxed.
     onward (after beforeAges relaxed (shorteningOf m relaxed)) (λ shortened.
     Gives (record {
-      friction = seated .friction;
-      slip = seated .slip;
+      friction = anchored .friction;
+      slip = anchored .slip;
       deflector = deflectorOf m;
       «early_relaxation» = earlyRelaxationOf m deflected;
       shortening = shorteningOf m relaxed;
       stress = shortened;
     })))))
+
+-- ---- "5. Per age"
 
 -- what stands at an end of an interval, at an hour of the member: "all moments so far" and g, the shares that are done, and the
 -- logarithm of relaxation's clock

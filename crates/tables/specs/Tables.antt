@@ -25,7 +25,7 @@ hundredths r = r .1
 abbrev pub atRow : ℕ → Row → ℕ
 atRow unit r = unit * hundredths r / hundred
 
--- On the straight line through two rows a value is the mean of theirs, each weighed by how near x is to it.
+-- "Straight lines join neighbouring rows": a value is the mean of two rows', each weighed by how near x is to it.
 abbrev pub weighed : ℕ → Row → Row → ℕ
 weighed x low high = hundredths low * (at high - x) + hundredths high * (x - at low)
 

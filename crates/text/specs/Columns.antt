@@ -8,11 +8,11 @@ use lib.ListN.{length}
 use Rattle.fields.specs.Quantities.{columns}
 use Rattle.fields.specs.Limits.{perRow}
 use Rattle.fields.specs.Outcomes.{over}
-use Rattle.line.specs.Lines.{space, lineFeed}
+use Rattle.line.specs.Lines.{space, lineFeed, zeroDigit}
 
--- a number's last digit; 0 is byte 48
+-- a number's last digit
 abbrev pub digit : ℕ → ℕ
-digit number = 48 + number % 10
+digit number = zeroDigit + number % 10
 
 -- what stands in a column, where `rest` is left of the number: its last digit, or a space where no digit is left. The last column has
 -- a digit even of 0.

@@ -9,11 +9,11 @@ use Rattle.coefficient.specs.Coefficients.{scf, ssf, mcf, ucr, ush}
 use Rattle.ticks.specs.Ticks.{ticksPerUnit}
 use Rattle.fields.specs.Quantities.{Quantities}
 use Rattle.fields.specs.Limits.{mostOfStrength, hundredths}
-use Rattle.member.specs.Constants.{kappaUnit, kappaOfSquares, creepDivisor, shrinkageDivisor, jacked}
+use Rattle.member.specs.Constants.{kappaOfSquares, creepDivisor, shrinkageDivisor, jacked}
 use Rattle.member.specs.Member.{cureOf, concreteOf, kappaOf, creepOf, shrinkageOf}
 use Rattle.member.specs.Facts.{mostCreep, mostShrinkage, Facts}
 use Rattle.member.proofs.Bounds.{creep-most, shrinkage-most}
-use Rattle.formulas.specs.Steps.{momentStress as ticksMomentStress}
+use Rattle.formulas.specs.Steps.{momentStress as ticksMomentStress, kappaUnit}
 use Rattle.tolerance.specs.Formulas.{kappa, wholeCreep, wholeShrinkage, momentStress}
 use Rattle.tolerance.proofs.Rounded.{Rounded, floor-rounded, rounded-whole-sum}
 use Rattle.tolerance.proofs.Concrete.{highestStress, kappaError}

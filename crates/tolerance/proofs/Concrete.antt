@@ -13,8 +13,7 @@ use Rattle.fraction.proofs.Certificate.{num, _⊟_, _⊠_, _⊑_, _⊢_, follow
 use Rattle.fraction.proofs.Slopes.{hinge}
 use Rattle.ticks.specs.Ticks.{ticksPerUnit}
 use Rattle.fields.specs.Limits.{range, mostKappa}
-use Rattle.member.specs.Constants.{kappaUnit}
-use Rattle.formulas.specs.Steps.{concreteStress as ticksConcreteStress}
+use Rattle.formulas.specs.Steps.{concreteStress as ticksConcreteStress, kappaUnit}
 use Rattle.tolerance.specs.Formulas.{_÷_, concreteStress}
 use Rattle.tolerance.proofs.Quotients.{quotient-not-negative}
 use Rattle.tolerance.proofs.Rounded.{Rounded, rounded-part, rounded-difference}

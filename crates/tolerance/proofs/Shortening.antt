@@ -12,8 +12,7 @@ use Rattle.fraction.proofs.Certificate.{num, _⊞_, _⊠_, _⊑_, _≐_, _⊛_,
 use Rattle.fraction.proofs.Floors.{whole-order, whole-not-negative}
 use Rattle.fraction.proofs.Slopes.{SlowTo, hinge, slow-resp-≈, scaled-hinge-slow-to}
 use Rattle.fields.specs.Limits.{range}
-use Rattle.member.specs.Constants.{kappaUnit}
-use Rattle.formulas.specs.Steps.{shorteningLoss as ticksShorteningLoss, concreteStress as ticksConcreteStress}
+use Rattle.formulas.specs.Steps.{shorteningLoss as ticksShorteningLoss, concreteStress as ticksConcreteStress, kappaUnit}
 use Rattle.tolerance.specs.Formulas.{_÷_, inverse, concreteStress, shorteningLoss}
 use Rattle.tolerance.proofs.Quotients.{quotient-not-negative, inverse-cancels}
 use Rattle.tolerance.proofs.Rounded.{Rounded, rounded-exact, rounded-sum, rounded-part, rounded-weaken, rounded-not-negative}

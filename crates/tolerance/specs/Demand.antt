@@ -12,7 +12,7 @@ use Rattle.stages.specs.Run.{Report}
 use Rattle.tolerance.specs.Method.{Choice, Admissible, tableChoice, stressAlong, afterSlip, stepsAfterSlip, afterDeflector}
 use Rattle.ticks.specs.Ticks.{ticksPerUnit}
 
--- "Steps count s + n + 3: segments, slip, early relaxation, shortening, ages"
+-- "Steps count s + n + 3: segments, slip, early relaxation, shortening, ages, also where the loss is 0"
 abbrev pub stepsOf : Quantities → ℕ
 stepsOf q = length (q .path) + length (q .ages) + 3
 
@@ -29,6 +29,7 @@ stressesBy (step ∷ steps) stress = step stress ∷ stressesBy steps (step stre
 abbrev pub exactAfterSlip : Choice → Quantities → Fraction
 exactAfterSlip choice q = afterSlip choice q (stressAlong choice q (q .path))
 
+-- the stress after every step
 abbrev pub exactStresses : Choice → Quantities → List Fraction
 exactStresses choice q =
     each (length (q .path)) (λ j. stressAlong choice q (take j (q .path)))

@@ -1,6 +1,6 @@
 -- The promise rests on it. The formulas without rounding, beside `Tables`, `Constants` of `member` and `Steps` of `formulas`. SCF, SSF
 -- and MCF are whole by themselves.
-use Prim.Native.Nat.{ℕ, _-_, _<_, max, _*_, _^_}
+use Prim.Native.Nat.{ℕ, _-_, _<_, max, _*_}
 use native.Mathlib.Nat.{le-max-left}
 use mathlib.Core.Bool.{cond}
 use mathlib.Core.List.{List, [], _∷_}
@@ -11,12 +11,13 @@ use Rattle.tables.specs.Tables.{hundred, at, hundredths, weighed}
 use Rattle.ticks.specs.Ticks.{ticksPerUnit, T}
 use Rattle.coefficient.specs.Coefficients.{scf, ssf, mcf, ucr, ush}
 use Rattle.fields.specs.Quantities.{Quantities, Segment, parabola, bend}
-use Rattle.member.specs.Constants.{million, kappaUnit, kappaOfSquares, creepDivisor, shrinkageDivisor}
+use Rattle.member.specs.Constants.{million, kappaOfSquares, creepDivisor, shrinkageDivisor}
 use Rattle.member.specs.Member.{cureOf, concreteOf}
 use Rattle.coefficient.specs.declared.codes.Steel.{Steel}
-use Rattle.formulas.specs.Steps.{relaxationDivisor}
+use Rattle.formulas.specs.Steps.{relaxationDivisor, kappaUnit}
 
 infixl 85 _÷_
+-- quotients without rounding: no divisor of an accepted member is 0; a divisor of 0 would read 1 here
 pub at-least-one : (b : ℕ) → 0 < max 1 b
 at-least-one b = le-max-left 1 b
 
@@ -98,11 +99,11 @@ momentStress moments eccentricity inertia = (moments * eccentricity) ÷ inertia
 
 -- "c = f·κ/2^32 − g", and each loss is "0 if c ≤ 0"
 abbrev pub concreteStress : Fraction → Fraction → Fraction → Fraction
-concreteStress stress kappa g = larger (stress ⊗ kappa ⊗ (1 ÷ (2 ^ 32)) ⊖ g) (whole 0)
+concreteStress stress kappa g = larger (stress ⊗ kappa ⊗ (1 ÷ kappaUnit) ⊖ g) (whole 0)
 
 -- "loss Es·c/(Eci + Es·κ/2^32)"
 abbrev pub shorteningLoss : ℕ → ℕ → Fraction → Fraction → Fraction
-shorteningLoss es eci kappa c = whole es ⊗ c ⊗ inverse (whole eci ⊕ whole es ⊗ kappa ⊗ (1 ÷ (2 ^ 32)))
+shorteningLoss es eci kappa c = whole es ⊗ c ⊗ inverse (whole eci ⊕ whole es ⊗ kappa ⊗ (1 ÷ kappaUnit))
 
 -- "creep W·c/T, W = U·share/T"
 abbrev pub creepLoss : Fraction → Fraction → Fraction → Fraction

@@ -3,8 +3,9 @@ use Prim.Native.Nat.{_*_, _≤_}
 use native.Mathlib.Nat.{mul-le-mul, div-le-self}
 use native.Mathlib.Omega.{arith}
 use borrow.Author.Needs.{needs}
+use Rattle.formulas.specs.Steps.{kappaUnit}
 use Rattle.fields.specs.Limits.{range}
-use Rattle.member.specs.Constants.{kappaUnit, kappaOfSquares}
+use Rattle.member.specs.Constants.{kappaOfSquares}
 use Rattle.member.proofs.section.kappa_of.Statement.{statement}
 use Rattle.member.proofs.section.kappa_of.Tie as tie
 

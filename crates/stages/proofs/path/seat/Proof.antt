@@ -5,17 +5,17 @@ use Rattle.fields.specs.Outcomes.{Gives}
 use Rattle.fields.specs.Given.{numberGiven}
 use Rattle.stages.proofs.path.seat.Statement.{statement}
 use Rattle.stages.proofs.path.seat.Tie as tie
-use Rattle.stages.specs.Run.{jacked, frictionOf, slipOf, seated, after, beforeAges}
+use Rattle.stages.specs.Run.{jacked, frictionLossOf, slipOf, seated, after, beforeAges}
 
 friction-leaves : (c : tie.After-after)
     → let m = c .before .before .before .args .m in
-    numberGiven (c .after .result) ≡ after beforeAges (jacked m) (frictionOf m)
+    numberGiven (c .after .result) ≡ after beforeAges (jacked m) (frictionLossOf m)
 friction-leaves c = rw (c .before .friction-loss .ensures) at (c .after .ensures)
 
 -- where friction left a stress
 rubbed-is : (c : tie.After-known-told)
     → let m = c .before .before .before .before .before .before .args .m in
-    after beforeAges (jacked m) (frictionOf m) ≡ Gives (c .before .rubbed .given .0 .0)
+    after beforeAges (jacked m) (frictionLossOf m) ≡ Gives (c .before .rubbed .given .0 .0)
 rubbed-is c = sym (friction-leaves (c .before .before .before)) ∙ ap numberGiven (c .before .rubbed .given .1)
 
 slip-leaves : (c : tie.After-after2)
