@@ -2,6 +2,7 @@
 -- product wraps: the powers of two above document 01's ranges.
 use Prim.Native.Nat.{ℕ, _^_, _≤_, _<_}
 use Rattle.ticks.specs.Ticks.{T}
+use Rattle.fields.specs.Limits.{strengths}
 
 -- ---- the bounds
 
@@ -24,7 +25,7 @@ deflectorLimit = 2 ^ 15
 
 -- the ultimate strength F is at least this, and below the next
 abbrev pub leastStrength : ℕ
-leastStrength = 100000
+leastStrength = strengths .low
 
 abbrev pub strengthLimit : ℕ
 strengthLimit = 2 ^ 19

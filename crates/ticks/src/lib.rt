@@ -38,6 +38,8 @@ pub const T: u64 = 16_777_216;
 
 // A unit is 2^10 ticks.
 const TICK_DOUBLINGS: u64 = 10;
+// 2^-10 of a unit.
+const TICK: f64 = 0.0009765625;
 
 // The one decoder. The significand has 53 digits, so that a cut of more leaves 0.
 fn decode(bits: u64, doublings: u64) -> Decoded
@@ -119,5 +121,5 @@ pub fn whole_of_double(x: f64) -> Amount
 pub fn double_of_ticks(ticks: u32) -> f64
     ensures { λ r. ⌜ HasValue r false ticks ticksPerUnit ⌝ }
 {
-    (ticks as f64) * 0.0009765625
+    (ticks as f64) * TICK
 }
