@@ -18,7 +18,7 @@ extern "C" {
  * the lines of a card before its segments, and their fields; the fields of a segment and of an age; the most of both. */
 #define STRATELYN_BYTES_PER_NUMBER 8
 #define STRATELYN_NUMBERS_PER_REPLY 8
-#define STRATELYN_NUMBERS_PER_AGE 4
+#define STRATELYN_NUMBERS_PER_AGE 5
 #define STRATELYN_COLUMNS_PER_FIELD 14
 #define STRATELYN_HEAD_LINES 4
 #define STRATELYN_HEAD_FIELDS 24
@@ -48,16 +48,17 @@ extern "C" {
 /* What a run returns. */
 enum stratelyn_refusal {
   STRATELYN_ACCEPTED = 0,
-  STRATELYN_CODE = 1,    /* a code that is not listed; place: field */
-  STRATELYN_RANGE = 2,   /* out of range; place: field */
-  STRATELYN_HOURS = 3,   /* a rule of hours is broken; place: field */
-  STRATELYN_DUCT = 4,    /* place 1: a pretensioned member with segments; 2: more friction than the method takes */
-  STRATELYN_SECTION = 5, /* too much steel for the section; place 14 */
-  STRATELYN_CREEP = 6,   /* too much creep for the section; place 17 */
-  STRATELYN_STRESS = 7,  /* under 1,000 psi after a loss; place 0 before the ages, else the age's number */
-  STRATELYN_SHAPE = 8,   /* a wrong or missing line of a card, the place; a wrong length of a list, place 0 */
-  STRATELYN_DOUBLE = 9,  /* a double that is not finite, negative, 2^31 or more, or not whole; place: field */
-  STRATELYN_BUFFER = 10  /* place 1: the report is too short; 2: the scratch; or the reply is under 64 bytes */
+  STRATELYN_CODE = 1,       /* a code that is not listed; place: field */
+  STRATELYN_RANGE = 2,      /* out of range; place: field */
+  STRATELYN_HOURS = 3,      /* a rule of hours is broken; place: field */
+  STRATELYN_DUCT = 4,       /* place 1: a pretensioned member with segments; 2: more friction than the method takes */
+  STRATELYN_SECTION = 5,    /* too much steel for the section; place 14 */
+  STRATELYN_CREEP = 6,      /* too much creep for the section; place 17 */
+  STRATELYN_STRESS = 7,     /* under 1,000 psi after a loss; place 0 before the ages, else the age's number */
+  STRATELYN_SHAPE = 8,      /* a wrong or missing line of a card, the place; a wrong length of a list, place 0 */
+  STRATELYN_DOUBLE = 9,     /* a double that is not finite, negative, 2^31 or more, or not whole; place: field */
+  STRATELYN_BUFFER = 10,    /* place 1: the report is too short; 2: the scratch; or the reply is under 64 bytes */
+  STRATELYN_OVERSTRESS = 11 /* above 0.80 F after a gain; place: the age's number */
 };
 
 /* The numbers of a reply. On a refusal all but the place are 0. */
@@ -72,12 +73,13 @@ enum stratelyn_reply {
   STRATELYN_LAST_STRESS = 7 /* a double, in psi; the others are in ticks of 1/1024 psi */
 };
 
-/* The numbers of an age in the report, in ticks of psi. */
+/* The numbers of an age in the report, in ticks of psi. The stress is that after the gain. */
 enum stratelyn_row {
   STRATELYN_ROW_CREEP = 0,
   STRATELYN_ROW_SHRINKAGE = 1,
   STRATELYN_ROW_RELAXATION = 2,
-  STRATELYN_ROW_STRESS = 3
+  STRATELYN_ROW_STRESS = 3,
+  STRATELYN_ROW_GAIN = 4
 };
 
 /* Runs a card, as text. */

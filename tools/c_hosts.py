@@ -52,8 +52,8 @@ def example_text(card):
     before, *ages = paper.card_rows(card)
     run = "shortening %.3f psi, %.3f psi before the ages\n" % (psi(before.shortening), psi(before.stress))
     for age in ages:
-        losses = (psi(age.creep), psi(age.shrinkage), psi(age.relaxation), psi(age.stress))
-        run += "  age %d: creep %.3f, shrinkage %.3f, relaxation %.3f, stress %.3f psi\n" % (age.age, *losses)
+        row = [psi(getattr(age, name)) for name in paper.ROW]
+        run += "  age %d: creep %.3f, shrinkage %.3f, relaxation %.3f, stress %.3f, gain %.3f psi\n" % (age.age, *row)
     run += "  last stress %.10f psi\n" % psi(ages[-1].stress)
     (refusal,) = paper.card_rows(card[:-1])
     return "card: " + run + "list: " + run + "cut card: refused %d at %d\n" % refusal

@@ -1,4 +1,4 @@
-"""The cards at the edges of document 01's ranges and rules, each with what it is.
+"""The cards at the edges of the ranges and rules of documents 01 and 02, each with what it is.
 
 A case more goes to the end, so that the others keep their numbers.
 """
@@ -6,7 +6,8 @@ from layout import card_of, start_of
 from paper import (
     ACCELERATED, AGE, BEND, BLANK, COLUMNS, HEAD, LEAST_STRESS, LEAST_TRANSFER, LIFE, LINE_FEED, LOW_RELAXATION, MOIST, MOST_AGES,
     MOST_CREEP, MOST_CURING_IF_MOIST, MOST_KAPPA, MOST_MOMENTS, MOST_SEGMENTS, MOST_TRANSFER, MOST_X, NORMAL, NUMBER, PARABOLA,
-    POST_TENSIONED, PRETENSIONED, SEGMENT_RANGES, STRAIGHT, STRESS_RELIEVED, T, TICKS, Age, Head, Segment, friction, most_of, whole_creep,
+    POST_TENSIONED, PRETENSIONED, SEGMENT_RANGES, STRAIGHT, STRESS_RELIEVED, T, TICKS, Age, Head, Segment, friction, most_of, run,
+    whole_creep,
 )
 
 MONTH, YEAR = 744, 8784
@@ -269,7 +270,43 @@ def shape():
     yield "%d spaces before a good card" % MANY_SPACES, b" " * MANY_SPACES + good
 
 
-PARTS = (ranges, counts, codes, segments, moments, hours, duct, section_and_creep, stress, long_cards, shape)
+# A member whose stress a moment lifts, and the moment of a tick of g.
+LIFTED = POST._replace(jacking_stress=60000, es=20000000, eci=8000000, ec=8000000, eccentricity=1024)
+MOMENT_OF_TICK = LIFTED.inertia // LIFTED.eccentricity
+
+
+def loaded(base, moment, number=1):
+    """A card with a moment at the age of this number."""
+    return card(base, (), [age._replace(moment=moment if i == number else 0) for i, age in enumerate(AGES, 1)])
+
+
+def gain_edge(over):
+    """A card whose stress after the first age's gain is so many ticks over 0.80 F."""
+    for strength in range(150000, most_of("ultimate_strength"), 5):
+        base = LIFTED._replace(ultimate_strength=strength)
+        _, (first, *_) = run(base, [], AGES)
+        gain = strength * 4 * TICKS // 5 + over - first.stress
+        rise = -(-gain * base.ec // base.es)
+        if base.es * rise // base.ec == gain:
+            return loaded(base, MOMENT_OF_TICK * rise)
+    raise SystemExit("no stress is %d ticks over 0.80 F" % over)
+
+
+def gains():
+    yield "0.80 F reached after a gain, to the tick", gain_edge(0)
+    yield "0.80 F passed by a tick after a gain", gain_edge(1)
+    yield "a moment a tick short of a tick of g", loaded(LIFTED, MOMENT_OF_TICK - 1)
+    yield "a moment of a tick of g, at the second age", loaded(LIFTED, MOMENT_OF_TICK, 2)
+    yield "0.80 F passed at the last age", loaded(LIFTED, 2**36, len(AGES))
+    # Too little is left by the losses, which the gain does not mend.
+    weak = LIFTED._replace(jacking_stress=2 * LEAST_STRESS // TICKS, area=most_of("area"), steel_area=1)
+    yield "stress under 1000 psi before a gain", loaded(weak, 2**33)
+    # Es times the rise of g, of 2^41 ticks, is 3 times 2^64, and 0 where 64 bits hold it.
+    slender = POST._replace(es=3 * 2**23, area=most_of("area"), inertia=1024, eccentricity=8192, steel_area=1)
+    yield "a rise of g whose product with Es passes 64 bits", loaded(slender, 2**38)
+
+
+PARTS = (ranges, counts, codes, segments, moments, hours, duct, section_and_creep, stress, long_cards, shape, gains)
 
 
 def cases():

@@ -1,4 +1,4 @@
-"""Document 01's method, written from the paper with whole numbers and fractions. It shares nothing with the core.
+"""The method of documents 01 and 02, written from the papers with whole numbers and fractions. It shares nothing with the core.
 
 `card_answer(card)` is what the report program prints for a card, `list_answer(..)` what a run of a list of doubles gives; every stored
 answer is held to them. The fields stand in one table, `LINES`, `SEGMENT` and `AGE`, and all else goes by their names: to add a field,
@@ -105,7 +105,7 @@ SEGMENT_RANGES = {STRAIGHT: (1, 2097152, 0), PARABOLA: (1024, 2097152, 65536), B
 
 # The numbers before the ages, and of each age in the report; how many numbers of scratch an age needs.
 BEFORE_AGES = ("friction", "slip", "deflector_loss", "early_relaxation", "shortening", "stress")
-ROW = ("creep", "shrinkage", "relaxation", "stress")
+ROW = ("creep", "shrinkage", "relaxation", "stress", "gain")
 REPORT_NUMBERS_OF_AGE = len(ROW)
 SCRATCH_NUMBERS_OF_AGE = len(ROW)
 
@@ -170,6 +170,7 @@ class Refusal(IntEnum):
     SHAPE = 8
     DOUBLE = 9
     BUFFER = 10
+    OVERSTRESS = 11
 
 
 ACCEPTED = (0, 0)
@@ -376,7 +377,8 @@ def run(head, segments, ages, report_room=MOST_REPORT_ROOM, scratch_room=MOST_SC
     divisor, percent = {STRESS_RELIEVED: (2560, 85), LOW_RELAXATION: (11520, 90)}[head.steel]
     y = percent * head.ultimate_strength * TICKS // 100
     relax = lambda stress, logs: stress * logs // divisor * max(stress * T // y - 55 * T // 100, 5 * T // 100) // T
-    concrete = lambda stress, moments: max(0, stress * kappa // 2**32 - moments * head.eccentricity // head.inertia)
+    moment_stress = lambda moments: moments * head.eccentricity // head.inertia
+    concrete = lambda stress, moments: max(0, stress * kappa // 2**32 - moment_stress(moments))
 
     def readings(hour):
         """Both shares and the logarithm at an hour of the member."""
@@ -387,6 +389,10 @@ def run(head, segments, ages, report_room=MOST_REPORT_ROOM, scratch_room=MOST_SC
     def left(stress, loss, place):
         check(stress - loss >= LEAST_STRESS, Refusal.STRESS, place)
         return stress - loss
+
+    def lifted(stress, gain, place):
+        check(100 * (stress + gain) <= 80 * head.ultimate_strength * TICKS, Refusal.OVERSTRESS, place)
+        return stress + gain
 
     start, moments = readings(head.transfer), head.own_weight_moment
     _, _, early_logs = start
@@ -411,9 +417,11 @@ def run(head, segments, ages, report_room=MOST_REPORT_ROOM, scratch_room=MOST_SC
             shrinkage * of_shrinkage // T,
             relax(stress, logs),
         ]
-        stress = left(stress, sum(losses), number)
-        lines.append(AgeLine(number, age.hour, *losses, stress))
-        start, moments = end, moments + age.moment
+        added = moments + age.moment
+        gain = head.es * (moment_stress(added) - moment_stress(moments)) // head.ec
+        stress = lifted(left(stress, sum(losses), number), gain, number)
+        lines.append(AgeLine(number, age.hour, *losses, stress, gain))
+        start, moments = end, added
     return before, lines
 
 

@@ -23,8 +23,9 @@ static void print(const char *what, uint64_t refused, const uint8_t *report, con
          psi(reply, STRATELYN_STRESS_BEFORE_AGES));
   for (size_t age = 0; age < AGES; age++) {
     const uint8_t *row = report + age * STRATELYN_BYTES_PER_AGE;
-    printf("  age %zu: creep %.3f, shrinkage %.3f, relaxation %.3f, stress %.3f psi\n", age + 1, psi(row, STRATELYN_ROW_CREEP),
-           psi(row, STRATELYN_ROW_SHRINKAGE), psi(row, STRATELYN_ROW_RELAXATION), psi(row, STRATELYN_ROW_STRESS));
+    printf("  age %zu: creep %.3f, shrinkage %.3f, relaxation %.3f, stress %.3f, gain %.3f psi\n", age + 1,
+           psi(row, STRATELYN_ROW_CREEP), psi(row, STRATELYN_ROW_SHRINKAGE), psi(row, STRATELYN_ROW_RELAXATION),
+           psi(row, STRATELYN_ROW_STRESS), psi(row, STRATELYN_ROW_GAIN));
   }
   uint64_t bits = number(reply, STRATELYN_LAST_STRESS);
   double last;

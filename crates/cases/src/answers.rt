@@ -55,6 +55,7 @@ fn print_rows(report: &[u64; MOST_ROOM], ages: u64) {
                 report[row + 1],
                 report[row + 2],
                 report[row + 3],
+                report[row + 4],
             ],
         );
         row += PER_ROW;

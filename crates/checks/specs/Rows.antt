@@ -153,7 +153,7 @@ abbrev pub duct : Bool → ℕ → ℕ → List Check
 duct pretensioned segments friction =
     at 1 (not pretensioned || eqb segments 0) ∷ at 2 (leb friction mostFriction) ∷ []
 
--- buffers: "report or scratch under 4n numbers"
+-- buffers: "report or scratch under" 5n numbers (document 02, W1)
 abbrev pub buffers : ℕ → ℕ → ℕ → List Check
 buffers ages report scratch = at 1 (leb (reportRoom ages) report) ∷ at 2 (leb (scratchRoom ages) scratch) ∷ []
 

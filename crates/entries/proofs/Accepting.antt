@@ -48,7 +48,7 @@ bounded q report scratch few facts =
     record {
       transfer = omega arith;
       strength = head .ultimate-least;
-      strength-fits = omega arith;
+      strength-most = head .ultimate-most;
       jacking-fits = omega arith;
       deflector-fits = omega arith;
       slip-fits = omega arith;
@@ -57,6 +57,8 @@ bounded q report scratch few facts =
       es-fits = omega arith;
       eci = omega arith;
       eci-fits = omega arith;
+      ec = omega arith;
+      ec-fits = omega arith;
       inertia = omega arith;
       eccentricity-fits = omega arith;
       own-weight-fits = head .own-weight-most;

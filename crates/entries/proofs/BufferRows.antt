@@ -1,4 +1,4 @@
--- Rows in a buffer: the four numbers of one, written over the front of a part or read there, and the rows of the scratch up to some
+-- Rows in a buffer: the five numbers of one, written over the front of a part or read there, and the rows of the scratch up to some
 -- place in the report, to which one more goes by way of the part from that place on. Assumes nothing.
 use mathlib.Core.Path.{_≡_, refl, sym, ap, _∙_}
 use mathlib.Core.List.{List, [], _∷_, _++_}
@@ -12,21 +12,23 @@ use Rattle.fields.specs.Outcomes.{over}
 use Rattle.fields.proofs.Buffers.{length-over, tail, written-behind}
 use Rattle.entries.specs.Conditions.{RoomForRows}
 
-pub four : (part : List ℕ) (a b c d : ℕ) → perRow ≤ length part
-    → set (set (set (set part 0 a) 1 b) 2 c) 3 d ≡ over (a ∷ b ∷ c ∷ d ∷ []) part
-four [] a b c d h = absurd (omega arith)
-four (w ∷ []) a b c d h = absurd (omega arith)
-four (w ∷ x ∷ []) a b c d h = absurd (omega arith)
-four (w ∷ x ∷ y ∷ []) a b c d h = absurd (omega arith)
-four (w ∷ x ∷ y ∷ z ∷ part) a b c d h = refl
+pub row-over : (part : List ℕ) (a b c d e : ℕ) → perRow ≤ length part
+    → set (set (set (set (set part 0 a) 1 b) 2 c) 3 d) 4 e ≡ over (a ∷ b ∷ c ∷ d ∷ e ∷ []) part
+row-over [] a b c d e h = absurd (omega arith)
+row-over (v ∷ []) a b c d e h = absurd (omega arith)
+row-over (v ∷ w ∷ []) a b c d e h = absurd (omega arith)
+row-over (v ∷ w ∷ x ∷ []) a b c d e h = absurd (omega arith)
+row-over (v ∷ w ∷ x ∷ y ∷ []) a b c d e h = absurd (omega arith)
+row-over (v ∷ w ∷ x ∷ y ∷ z ∷ part) a b c d e h = refl
 
-pub first-four : (part : List ℕ) → perRow ≤ length part
-    → getD part 0 0 ∷ getD part 1 0 ∷ getD part 2 0 ∷ getD part 3 0 ∷ [] ≡ take perRow part
-first-four [] h = absurd (omega arith)
-first-four (w ∷ []) h = absurd (omega arith)
-first-four (w ∷ x ∷ []) h = absurd (omega arith)
-first-four (w ∷ x ∷ y ∷ []) h = absurd (omega arith)
-first-four (w ∷ x ∷ y ∷ z ∷ part) h = refl
+pub row-at-front : (part : List ℕ) → perRow ≤ length part
+    → getD part 0 0 ∷ getD part 1 0 ∷ getD part 2 0 ∷ getD part 3 0 ∷ getD part 4 0 ∷ [] ≡ take perRow part
+row-at-front [] h = absurd (omega arith)
+row-at-front (v ∷ []) h = absurd (omega arith)
+row-at-front (v ∷ w ∷ []) h = absurd (omega arith)
+row-at-front (v ∷ w ∷ x ∷ []) h = absurd (omega arith)
+row-at-front (v ∷ w ∷ x ∷ y ∷ []) h = absurd (omega arith)
+row-at-front (v ∷ w ∷ x ∷ y ∷ z ∷ part) h = refl
 
 -- room for a row behind some place is room in the part from that place on
 pub part-room : (buffer : List ℕ) (at : ℕ) → at + perRow ≤ length buffer

@@ -7,7 +7,7 @@ use native.Mathlib.Omega.{arith}
 use lib.Dec.{eqb}
 use Rattle.fields.specs.declared.refusal.Refusal.{Refusal}
 use Rattle.fields.specs.declared.refusal.Refusal.the-variants.{Shape, Doubles, Codes, Ranges, Hours, Duct, Buffers}
-use Rattle.fields.specs.declared.refusal.Refusal.the-variants.{Section, Creep, Stress}
+use Rattle.fields.specs.declared.refusal.Refusal.the-variants.{Section, Creep, Stress, Overstress}
 use Rattle.fields.specs.Outcomes.{OrRefusal}
 use Rattle.fields.specs.Refusals.{number, place}
 use Rattle.stages.specs.Run.{Report}
@@ -26,6 +26,7 @@ refusal-number (Buffers buffer) = omega arith
 refusal-number Section = omega arith
 refusal-number Creep = omega arith
 refusal-number (Stress age) = omega arith
+refusal-number (Overstress age) = omega arith
 
 refusalBy : ℕ → ℕ → Refusal
 refusalBy number place =
@@ -37,7 +38,8 @@ refusalBy number place =
     (cond (eqb number 4) (Duct place)
     (cond (eqb number 10) (Buffers place)
     (cond (eqb number 5) Section
-    (cond (eqb number 6) Creep (Stress place)))))))))
+    (cond (eqb number 6) Creep
+    (cond (eqb number 7) (Stress place) (Overstress place))))))))))
 
 found : (refusal : Refusal) → refusalBy (number refusal) (place refusal) ≡ refusal
 unfolding refusalBy
@@ -51,6 +53,7 @@ found (Buffers buffer) = refl
 found Section = refl
 found Creep = refl
 found (Stress age) = refl
+found (Overstress age) = refl
 
 same-refusal : (one other : Refusal) → number one ≡ number other → place one ≡ place other → one ≡ other
 same-refusal one other numbers places = sym (found one) ∙ rw (numbers, places) (found other)

@@ -22,6 +22,7 @@ use Rattle.stages.specs.declared.ends.End.{End}
 use Rattle.stages.specs.declared.intervals.Row.{Row}
 use Rattle.stages.specs.declared.intervals.Passed.{Passed}
 use Rattle.stages.specs.declared.intervals.Passed.the-variants.{By, Refused as NotPassed}
+use Rattle.stages.specs.Conditions.{Bounded}
 use Rattle.stages.specs.Given.{rowGiven}
 use Rattle.stages.specs.Run.{Aged, behind, endAt, transferEnd, rowBetween, agedFrom}
 use Rattle.stages.proofs.Passing.{row-fits, row-refuses}
@@ -204,13 +205,14 @@ module _ {m : Member} {fields : List ℕ} {first : ℕ} {old scratch : List ℕ}
           length-then : length (numbersOfRows rows-then) ≡ perRow * (passed + 1)
           length-then = let r = p .rows-length in rw (rows-append, length-append) (omega arith)
 
-          pub turns : Progress m fields first old (putMid at (length scratch - at) scratch part) (row .stress) end (passed + 1)
-          turns =
+          pub turns : Bounded m
+              → Progress m fields first old (putMid at (length scratch - at) scratch part) (row .stress) end (passed + 1)
+          turns bounds =
               let r = p .room in
               let all = length-then in
               record {
                 within = omega arith;
-                stress-fits = row-fits m (passed + 1) stress start end (p .stress-fits) passes;
+                stress-fits = row-fits m (passed + 1) stress start end bounds passes;
                 hour = age .hour;
                 rise = then-rising rise-here;
                 moments-fit = rw end-is (then-within moments-here);

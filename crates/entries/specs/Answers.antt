@@ -73,9 +73,9 @@ pub record Answered (result : OrRefusal Report) (answer : Answer) : Type 0 where
 
 -- ---- what an entry leaves of the lent buffers
 
--- "creep, shrinkage, relaxation, stress per age"
+-- "creep, shrinkage, relaxation, stress per age", and document 02, W1: the gain "as a fifth per age, after the stress"
 abbrev pub numbersOfRow : Row → List ℕ
-numbersOfRow row = row .creep ∷ row .shrinkage ∷ row .relaxation ∷ row .stress ∷ []
+numbersOfRow row = row .creep ∷ row .shrinkage ∷ row .relaxation ∷ row .stress ∷ row .gain ∷ []
 
 unfoldable pub numbersOfRows : List Row → List ℕ
 numbersOfRows [] = []
@@ -91,8 +91,8 @@ abbrev pub keepsScratch : OrRefusal Report → Bool
 keepsScratch (Gives report) = false
 keepsScratch (Refuses refusal) = not (mayAlterScratch refusal)
 
--- what an entry ensures of its answer and of the two lent buffers, as they are and as they were: the report with "numbers past 4n
--- unchanged", and of the scratch, where it is undecided, "that it keeps its length"
+-- what an entry ensures of its answer and of the two lent buffers, as they are and as they were: the report with "numbers past" the
+-- rows "unchanged", and of the scratch, where it is undecided, "that it keeps its length"
 pub record Ran (result : OrRefusal Report) (answer : Answer) (report reportWas scratch scratchWas : List ℕ) : Type 0 where
   pub answered : Answered result answer
   pub report-is : report ≡ over (numbersWritten result) reportWas

@@ -18,6 +18,7 @@ pub(crate) fn write_row(part: &mut [u64], row: Row)
     part[1] = row.shrinkage;
     part[2] = row.relaxation;
     part[3] = row.stress;
+    part[4] = row.gain;
 }
 
 // The row at the front of the part of a buffer that begins with it.
@@ -30,6 +31,7 @@ fn read_row(part: &[u64]) -> Row
         shrinkage: part[1],
         relaxation: part[2],
         stress: part[3],
+        gain: part[4],
     }
 }
 

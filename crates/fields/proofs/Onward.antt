@@ -22,3 +22,10 @@ pub refused : {A B : Type 0} (given : OrRefusal A) (next : A → B) {refusal : R
     → onward given (λ value. Gives (next value)) ≡ Refuses refusal → given ≡ Refuses refusal
 refused (Gives from) next e = let never : _≡_ {A = ℕ} 0 1 = cc in absurd (omega arith)
 refused (Refuses early) next {refusal} e = let same : early ≡ refusal = cc in ap Refuses same
+
+-- what holds of each refusal that can arise holds of the one that did
+pub of-refused : {A B : Type 0} (P : Refusal → Type 0) (given : OrRefusal A) (next : A → OrRefusal B) {refusal : Refusal}
+    → ((early : Refusal) → given ≡ Refuses early → P early) → ((from : A) (late : Refusal) → next from ≡ Refuses late → P late)
+    → onward given next ≡ Refuses refusal → P refusal
+of-refused P (Gives from) next {refusal} before behind e = behind from refusal e
+of-refused P (Refuses early) next {refusal} before behind e = let same : early ≡ refusal = cc in before refusal (ap Refuses same)

@@ -16,7 +16,7 @@ pub record Range : Type 0 where
 abbrev pub _to_ : ℕ → ℕ → Range
 low to high = record { low = low; high = high }
 
--- "ultimate strength F 100,000..300,000 psi, 4 jacking stress .. at most 0.80 F"
+-- "ultimate strength F 100,000..300,000 psi, 4 jacking stress .. at most 0.80 F", as is the stress after a gain (document 02, W1)
 abbrev pub strengths : Range
 strengths = 100000 to 300000
 
@@ -111,11 +111,11 @@ mostCreepOfKappa = 2 ^ 56
 abbrev pub leastStress : ℕ
 leastStress = 1000 * ticksPerUnit
 
--- ---- buffers: "report or scratch under 4n numbers"
+-- ---- buffers: "report or scratch under" a row's numbers for each age
 
--- "creep, shrinkage, relaxation, stress per age"
+-- "creep, shrinkage, relaxation, stress per age", and document 02, W1: the gain "as a fifth per age .., so buffers need 5n"
 abbrev pub perRow : ℕ
-perRow = 4
+perRow = 5
 
 abbrev pub reportRoom : ℕ → ℕ
 reportRoom ages = perRow * ages

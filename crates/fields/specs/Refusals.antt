@@ -1,6 +1,6 @@
--- The promise rests on it. The numbers and places of document 01, "Refusal by place of checking", row by row.
+-- The promise rests on it. The numbers and places of document 01, "Refusal by place of checking", row by row, and of document 02.
 use Prim.Native.Nat.{ℕ}
-use mathlib.Core.Bool.{Bool}
+use mathlib.Core.Bool.{Bool, _||_}
 use lib.Dec.{eqb}
 use Rattle.fields.specs.Quantities.{fieldNumber}
 use Rattle.fields.specs.declared.refusal.Refusal.{Refusal}
@@ -16,6 +16,7 @@ number (Refusal.Buffers place) = 10
 number Refusal.Section = 5
 number Refusal.Creep = 6
 number (Refusal.Stress age) = 7
+number (Refusal.Overstress age) = 11
 
 abbrev pub place : Refusal → ℕ
 place (Refusal.Shape line) = line
@@ -28,7 +29,8 @@ place (Refusal.Buffers p) = p
 place Refusal.Section = fieldNumber .area
 place Refusal.Creep = fieldNumber .steelArea
 place (Refusal.Stress age) = age
+place (Refusal.Overstress age) = age
 
--- "refusal 7 alone may alter the scratch"
+-- "refusal 7 alone may alter the scratch"; document 02, W1, of 11: "like 7 it may alter the scratch"
 abbrev pub mayAlterScratch : Refusal → Bool
-mayAlterScratch refusal = eqb (number refusal) 7
+mayAlterScratch refusal = eqb (number refusal) 7 || eqb (number refusal) 11

@@ -19,7 +19,7 @@ pub const MOST_ULTIMATE_STRENGTH: u64 = 300_000;
 
 pub const LEAST_JACKING_STRESS: u64 = 1_000;
 
-// 0.80 F
+// 0.80 F, of the jacking stress and of the stress after a gain.
 pub const MOST_OF_STRENGTH: u64 = 80;
 
 pub const HUNDREDTHS: u64 = 100;
@@ -121,8 +121,8 @@ pub const LEAST_STRESS: u64 = 1_000 * TICKS_PER_UNIT;
 
 // ---- Buffers
 
-// Creep, shrinkage, relaxation and stress of an age.
-pub const PER_ROW: usize = 4;
+// Creep, shrinkage, relaxation, stress and gain of an age.
+pub const PER_ROW: usize = 5;
 
 // The numbers of the longest report, and of the longest scratch.
 pub const MOST_REPORT: usize = PER_ROW * MOST_AGES;

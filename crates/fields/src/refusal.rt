@@ -8,7 +8,8 @@ const AREA_FIELD: u64 = (places::AREA + 1) as u64;
 
 const STEEL_AREA_FIELD: u64 = (places::STEEL_AREA + 1) as u64;
 
-// A case for each row of document 01's table, with its place where that varies.
+// A case for each row of document 01's table, with its place where that varies; and for 11 of document 02, the stress above 0.80 F
+// after a gain.
 pub enum Refusal {
     Shape(u64),
     Doubles(u64),
@@ -20,6 +21,7 @@ pub enum Refusal {
     Section,
     Creep,
     Stress(u64),
+    Overstress(u64),
 }
 
 // The counts of segments and of ages, their fields read; or a refusal.
@@ -48,6 +50,7 @@ pub fn number_of(refusal: Refusal) -> u64
         Refusal::Section => 5,
         Refusal::Creep => 6,
         Refusal::Stress(_) => 7,
+        Refusal::Overstress(_) => 11,
     }
 }
 
@@ -65,5 +68,6 @@ pub fn place_of(refusal: Refusal) -> u64
         Refusal::Section => AREA_FIELD,
         Refusal::Creep => STEEL_AREA_FIELD,
         Refusal::Stress(age) => age,
+        Refusal::Overstress(age) => age,
     }
 }

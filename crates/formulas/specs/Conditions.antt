@@ -40,6 +40,20 @@ esLimit = 2 ^ 25
 abbrev pub eciLimit : ℕ
 eciLimit = 2 ^ 23
 
+-- Ec is at least this, and below the next
+abbrev pub leastEc : ℕ
+leastEc = 2 ^ 19
+
+abbrev pub ecLimit : ℕ
+ecLimit = 2 ^ 23
+
+-- the inertia is at least this, and g at most the next
+abbrev pub leastInertia : ℕ
+leastInertia = 2 ^ 10
+
+abbrev pub mostMomentStress : ℕ
+mostMomentStress = 2 ^ 48
+
 -- above all moments together
 abbrev pub momentLimit : ℕ
 momentLimit = 2 ^ 41
@@ -56,6 +70,10 @@ creepLimit = 2 ^ 31
 
 abbrev pub shrinkageLimit : ℕ
 shrinkageLimit = 2 ^ 26
+
+-- above every gain, since Es is at most 2^6 times Ec
+abbrev pub gainLimit : ℕ
+gainLimit = 2 ^ 56
 
 -- ---- what each step asks
 
@@ -86,7 +104,7 @@ pub record FactorFits (stress y : ℕ) : Type 0 where
 pub record MomentsFit (moments eccentricity inertia : ℕ) : Type 0 where
   pub moments-fit : moments < momentLimit
   pub eccentricity-fits : eccentricity < eccentricityLimit
-  pub some-inertia : 1 ≤ inertia
+  pub inertia-least : leastInertia ≤ inertia
 
 pub record ConcreteFits (stress kappa : ℕ) : Type 0 where
   pub stress-fits : stress < stressLimit
@@ -107,3 +125,9 @@ pub record CreepFits (wholeCreep share c : ℕ) : Type 0 where
 pub record ShrinkageFits (wholeShrinkage share : ℕ) : Type 0 where
   pub shrinkage-fits : wholeShrinkage < shrinkageLimit
   pub share-fits : share ≤ T
+
+pub record GainFits (es ec rise : ℕ) : Type 0 where
+  pub es-fits : es < esLimit
+  pub ec-least : leastEc ≤ ec
+  pub ec-fits : ec < ecLimit
+  pub rise-fits : rise ≤ mostMomentStress

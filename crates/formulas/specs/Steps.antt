@@ -1,4 +1,5 @@
--- The promise rests on it. What each loss is: document 01, "Steps". Stresses are in ticks, "Every division rounds down".
+-- The promise rests on it. What each loss is: document 01, "Steps"; and the gain of document 02, W1. Stresses are in ticks, "Every
+-- division rounds down".
 use Prim.Native.Nat.{ℕ, _+_, _-_, _*_, _/_, _^_, max}
 use Rattle.ticks.specs.Ticks.{ticksPerUnit, T}
 use Rattle.coefficient.specs.declared.codes.Steel.{Steel}
@@ -57,3 +58,7 @@ creepLoss wholeCreep share c = wholeCreep * share / T * c / T
 -- "shrinkage S·share/T"
 abbrev pub shrinkageLoss : ℕ → ℕ → ℕ
 shrinkageLoss wholeShrinkage share = wholeShrinkage * share / T
+
+-- document 02, W1: "Es times the rise of g over Ec, rounded down"
+abbrev pub momentGain : ℕ → ℕ → ℕ → ℕ
+momentGain es ec rise = es * rise / ec

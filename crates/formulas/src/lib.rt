@@ -1,10 +1,12 @@
-// The losses of each step, in ticks. Every division rounds down. What a function requires is that its products fit.
+// The losses of each step and the gain, in ticks. Every division rounds down. What a function requires is that its products fit.
 ghost use mathlib.Core.Path.{_≡_};
 ghost use Prim.Native.Nat.{_-_, _<_};
 ghost use Rattle.formulas.specs.Steps.{frictionLoss, slipLoss, deflectorTicks, yield, relaxationDivisor, relaxationFactor};
 ghost use Rattle.formulas.specs.Steps.{relaxationLoss, momentStress, concreteStress, shorteningLoss, creepLoss, shrinkageLoss};
+ghost use Rattle.formulas.specs.Steps.{momentGain};
 ghost use Rattle.formulas.specs.Conditions.{strengthLimit, FrictionFits, SlipFits, DeflectorFits, RelaxationFits, FactorFits};
 ghost use Rattle.formulas.specs.Conditions.{MomentsFit, ConcreteFits, ShorteningFits, CreepFits, ShrinkageFits};
+ghost use Rattle.formulas.specs.Conditions.{GainFits};
 use coefficient::codes::Steel;
 use ticks::T;
 use ticks::TICKS_PER_UNIT;
@@ -134,4 +136,12 @@ pub fn shrinkage_loss(whole_shrinkage: u64, share: u64) -> u64
     ensures { λ r. ⌜ r ≡ shrinkageLoss «whole_shrinkage» share ⌝ }
 {
     whole_shrinkage * share / T
+}
+
+// Es·rise/Ec. The product may need more than 64 bits, so the whole Ec in the rise are taken out of it first; they divide exactly.
+pub fn moment_gain(es: u64, ec: u64, rise: u64) -> u64
+    requires { ⌜ GainFits es ec rise ⌝ }
+    ensures { λ r. ⌜ r ≡ momentGain es ec rise ⌝ }
+{
+    es * (rise / ec) + es * (rise % ec) / ec
 }

@@ -193,6 +193,16 @@ constant-keeps-distance most s e x y hx hy h = record {
   below = follows (e ∷ s ∷ x ∷ y ∷ []) (λ E S X Y. Y ⊑ X ⊞ E ∷ [] ⊢ Y ⊟ S ⊑ X ⊟ S ⊞ E) tt (h .below);
 }
 
+-- what is added behind a step
+pub raised-keeps-distance : (most s : Fraction) (step : Fraction → Fraction) → KeepsDistance most step →
+    KeepsDistance most (λ x. step x ⊕ s)
+raised-keeps-distance most s step keeps e x y hx hy h =
+    let near = keeps e x y hx hy h in
+    record {
+      above = follows (e ∷ s ∷ step x ∷ step y ∷ []) (λ E S X Y. X ⊑ Y ⊞ E ∷ [] ⊢ X ⊞ S ⊑ Y ⊞ S ⊞ E) tt (near .above);
+      below = follows (e ∷ s ∷ step x ∷ step y ∷ []) (λ E S X Y. Y ⊑ X ⊞ E ∷ [] ⊢ Y ⊞ S ⊑ X ⊞ S ⊞ E) tt (near .below);
+    }
+
 -- a part of slope at most 2
 pub part-keeps-distance : (most p : Fraction) (a : Fraction → Fraction) → SlowTo most p a → p ≼ whole 2 →
     KeepsDistance most (λ x. x ⊖ a x)

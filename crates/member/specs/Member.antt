@@ -59,6 +59,7 @@ memberOf q = record {
   length = q .tendonLength;
   es = q .Es;
   eci = q .Eci;
+  ec = q .Ec;
   inertia = q .inertia;
   eccentricity = q .eccentricity;
   «own_weight_moment» = q .ownWeightMoment;

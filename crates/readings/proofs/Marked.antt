@@ -1,4 +1,4 @@
--- The theorem `marked`: document 01's marked readings and edges, all of them. Each is computed from the definitions, unfolded down to
+-- The theorem `marked`: document 01's marked readings and edges, all of them, and the edge of document 02's 11. Each is computed from the definitions, unfolded down to
 -- arithmetic. Assumes nothing.
 use Prim.Native.Nat.{_+_, _*_}
 use mathlib.Core.Path.{_≡_, refl}
@@ -28,7 +28,7 @@ unfolding firstColumns agesText reportText linesOf fieldsOf hourly cardOutcome d
 computed = tt
 
 -- the longest run, by itself: its 128 logarithms take most of the steps that a declaration may take
-sixty-four-ages : numberAndPlace (resultOfCard (withAges 64) 256) ≡ 0 ∷ 0 ∷ []
+sixty-four-ages : numberAndPlace (resultOfCard (withAges 64) 320) ≡ 0 ∷ 0 ∷ []
 unfolding computed
 sixty-four-ages = refl
 
@@ -61,4 +61,8 @@ marked = record {
   X-5033165-refused = refl;
   ages-64 = sixty-four-ages;
   ages-65 = refl;
+  gain-reaches = refl;
+  gain-reaches-passes = refl;
+  gain-above = refl;
+  gain-above-refused = refl;
 }

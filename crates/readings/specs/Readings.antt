@@ -1,6 +1,6 @@
--- The theorem `marked` rests on it. The readings that document 01 marks ★, and its edges, in the order of its "Sample beam": one list of
--- what the definitions of the other crates give, to be held beside the paper.
-use Prim.Native.Nat.{ℕ, zero, suc, _+_, _*_, _^_, _≤_}
+-- The theorem `marked` rests on it. The readings that document 01 marks ★, and its edges, in the order of its "Sample beam", and the edge
+-- of document 02's 11: one list of what the definitions of the other crates give, to be held beside the papers.
+use Prim.Native.Nat.{ℕ, zero, suc, _+_, _-_, _*_, _^_, _≤_}
 use mathlib.Core.List.{List, [], _∷_, _++_}
 use mathlib.Core.Path.{_≡_}
 use Rattle.ticks.specs.declared.Amount.{Amount}
@@ -14,10 +14,11 @@ use Rattle.card.specs.Card.{cardOutcome}
 use Rattle.fields.specs.Quantities.{Quantities, Segment, Age, parabola, quantitiesRead}
 use Rattle.fields.specs.Refusals.{number, place}
 use Rattle.member.specs.Constants.{pathFriction}
-use Rattle.member.specs.Member.{frictionOf}
+use Rattle.member.specs.declared.Member.{Member}
+use Rattle.member.specs.Member.{frictionOf, memberOf}
 use Rattle.stages.specs.declared.before.BeforeAges.{BeforeAges}
 use Rattle.stages.specs.declared.intervals.Row.{Row}
-use Rattle.stages.specs.Run.{Report, resultRead}
+use Rattle.stages.specs.Run.{begunOf, endAt, transferEnd, lossesBetween, together, gainBetween, Report, resultRead}
 use Rattle.entries.specs.Answers.{numbersBefore, numbersOfRow}
 use Rattle.text.specs.Columns.{allInColumns, lineOf}
 use Rattle.text.specs.Text.{reportText}
@@ -78,6 +79,13 @@ hourly (suc count) hour = (hour ∷ 0 ∷ []) ∷ hourly count (suc hour)
 abbrev pub withAges : ℕ → List ℕ
 withAges count = linesOf (line1 ∷ line2 3072 ∷ line3 ∷ line4 0 0 0 count ∷ hourly count 437936)
 
+-- this ultimate strength and a jacking stress of 60,000 psi, Es 2.5 times Ec, an eccentricity of an inch, and at the first age this moment
+abbrev pub withGain : ℕ → ℕ → List ℕ
+withGain strength moment =
+    linesOf
+    ((2 ∷ 1 ∷ strength ∷ 60000 ∷ 0 ∷ 0 ∷ 102400 ∷ []) ∷ (2 ∷ 1 ∷ 20000000 ∷ 8000000 ∷ 8000000 ∷ 3072 ∷ [])
+    ∷ (131072 ∷ 1048576 ∷ 1024 ∷ 1024 ∷ 0 ∷ []) ∷ line4 0 0 0 3 ∷ (744 ∷ moment ∷ []) ∷ (8784 ∷ 0 ∷ []) ∷ (438000 ∷ 0 ∷ []) ∷ [])
+
 -- ---- what a card gives
 
 -- with room for so many numbers in report and scratch
@@ -105,19 +113,36 @@ agesRead (Refuses refusal) = []
 abbrev pub age : ℕ → ℕ → Age
 age hour moment = record { hour = hour; moment = moment }
 
--- "friction, slip, deflector, early relaxation, shortening, stress" of the sample, and its rows: "creep, shrinkage, relaxation, stress"
+-- the stress after the first age's gain, before it is looked at; 0 of a member that does not reach the age
+abbrev pub firstLifted : Member → OrRefusal BeforeAges → List Age → ℕ
+firstLifted m (Gives before) (age ∷ ages) =
+    let start = transferEnd m in
+    let end = endAt m (start .moments + age .moment) (age .hour) in
+    before .stress - together (lossesBetween m (before .stress) start end) + gainBetween m start end
+firstLifted m (Gives before) [] = 0
+firstLifted m (Refuses refusal) ages = 0
+
+abbrev pub firstLiftedRead : OrRefusal Quantities → ℕ
+firstLiftedRead (Gives q) = firstLifted (memberOf q) (begunOf (memberOf q)) (q .ages)
+firstLiftedRead (Refuses refusal) = 0
+
+abbrev pub firstLiftedOf : List ℕ → ℕ
+firstLiftedOf card = firstLiftedRead (quantitiesRead (cardOutcome card))
+
+-- "friction, slip, deflector, early relaxation, shortening, stress" of the sample, and its rows: "creep, shrinkage, relaxation, stress",
+-- and the gain: "The sample beam has no added moment, so it only gains a zero column."
 abbrev pub sampleBefore : BeforeAges
 sampleBefore =
     record { friction = 0; slip = 0; deflector = 0; «early_relaxation» = 0; shortening = 7228235; stress = 115651765 }
 
 abbrev pub row1 : Row
-row1 = record { creep = 3026370; shrinkage = 5548031; relaxation = 1651198; stress = 105426166 }
+row1 = record { creep = 3026370; shrinkage = 5548031; relaxation = 1651198; stress = 105426166; gain = 0 }
 
 abbrev pub row2 : Row
-row2 = record { creep = 3074075; shrinkage = 5812223; relaxation = 572430; stress = 95967438 }
+row2 = record { creep = 3074075; shrinkage = 5812223; relaxation = 572430; stress = 95967438; gain = 0 }
 
 abbrev pub row3 : Row
-row3 = record { creep = 1865515; shrinkage = 1849344; relaxation = 815347; stress = 91437232 }
+row3 = record { creep = 1865515; shrinkage = 1849344; relaxation = 815347; stress = 91437232; gain = 0 }
 
 -- ---- the other readings
 
@@ -142,7 +167,7 @@ pub record Marked : Type 0 where
   -- "this sample": the fields of its text, its ages (the first, the second, the third), what it gives, and what is printed for it
   pub sample-fields : cardOutcome sample ≡ accepted 0 3 (fieldsOf sampleLines)
   pub sample-ages : agesRead (quantitiesRead (cardOutcome sample)) ≡ age 744 0 ∷ age 8784 0 ∷ age 438000 0 ∷ []
-  pub sample-result : resultOfCard sample 12 ≡ Gives (record { before = sampleBefore; rows = row1 ∷ row2 ∷ row3 ∷ []; last = 91437232 })
+  pub sample-result : resultOfCard sample 15 ≡ Gives (record { before = sampleBefore; rows = row1 ∷ row2 ∷ row3 ∷ []; last = 91437232 })
   pub sample-printed : reportText sample
       ≡ linesOf (numbersBefore sampleBefore ∷ (1 ∷ 744 ∷ numbersOfRow row1) ∷ (2 ∷ 8784 ∷ numbersOfRow row2)
       ∷ (3 ∷ 438000 ∷ numbersOfRow row3) ∷ [])
@@ -167,13 +192,18 @@ pub record Marked : Type 0 where
   -- "parabola 65,536 by 2,560, wobble 200, curvature 150,000: X 411,356"
   pub parabola-X : pathFriction 200 150000 (parabolaOf 65536 2560 ∷ []) ≡ 411356
   -- "volume/surface 1,024 passes, 1,023 gives 2", at field 13
-  pub surface-1024 : numberAndPlace (resultOfCard (withVolumeToSurface 1024) 12) ≡ 0 ∷ 0 ∷ []
-  pub surface-1023 : numberAndPlace (resultOfCard (withVolumeToSurface 1023) 12) ≡ 2 ∷ 13 ∷ []
+  pub surface-1024 : numberAndPlace (resultOfCard (withVolumeToSurface 1024) 15) ≡ 0 ∷ 0 ∷ []
+  pub surface-1023 : numberAndPlace (resultOfCard (withVolumeToSurface 1023) 15) ≡ 2 ∷ 13 ∷ []
   -- "X 5,033,164 passes, 5,033,165 gives 4", at place 2
   pub X-5033164 : frictionOfCard (withDuct 61) ≡ 5033164
-  pub X-5033164-passes : numberAndPlace (resultOfCard (withDuct 61) 12) ≡ 0 ∷ 0 ∷ []
+  pub X-5033164-passes : numberAndPlace (resultOfCard (withDuct 61) 15) ≡ 0 ∷ 0 ∷ []
   pub X-5033165 : frictionOfCard (withDuct 62) ≡ 5033165
-  pub X-5033165-refused : numberAndPlace (resultOfCard (withDuct 62) 12) ≡ 4 ∷ 2 ∷ []
+  pub X-5033165-refused : numberAndPlace (resultOfCard (withDuct 62) 15) ≡ 4 ∷ 2 ∷ []
   -- "64 ages pass, 65 give 2", at field 24
-  pub ages-64 : numberAndPlace (resultOfCard (withAges 64) 256) ≡ 0 ∷ 0 ∷ []
-  pub ages-65 : numberAndPlace (resultOfCard (withAges 65) 260) ≡ 2 ∷ 24 ∷ []
+  pub ages-64 : numberAndPlace (resultOfCard (withAges 64) 320) ≡ 0 ∷ 0 ∷ []
+  pub ages-65 : numberAndPlace (resultOfCard (withAges 65) 325) ≡ 2 ∷ 24 ∷ []
+  -- document 02, W1: "11 when the stress after a gain passes 0.80 F": to the tick it passes, a tick above it is refused at age 1
+  pub gain-reaches : 100 * firstLiftedOf (withGain 150005 28603053056) ≡ 80 * 150005 * 1024
+  pub gain-reaches-passes : numberAndPlace (resultOfCard (withGain 150005 28603053056) 15) ≡ 0 ∷ 0 ∷ []
+  pub gain-above : 100 * firstLiftedOf (withGain 150000 28601375744) ≡ 80 * 150000 * 1024 + 100 * 1
+  pub gain-above-refused : numberAndPlace (resultOfCard (withGain 150000 28601375744) 15) ≡ 11 ∷ 1 ∷ []

@@ -1,17 +1,32 @@
--- What a loss leaves of a stress: which case it is, that it is never more than the stress, and that a refusal is one of the stress.
--- Assumes nothing.
-use mathlib.Core.Path.{_≡_}
+-- What a loss leaves of a stress, and what a gain makes of it. Each is a test that gives a stress or refuses: which case it is, what was
+-- tested where a stress is given, that this stress fits, and which refusal it is. Assumes nothing.
+use mathlib.Core.Path.{_≡_, refl}
 use mathlib.Core.Bool.{Bool, true, false, cond}
-use Prim.Native.Nat.{ℕ, _+_, _-_, _≤_, _<_}
+use Prim.Native.Nat.{ℕ, _+_, _-_, _*_, _≤_, _<_}
 use native.Mathlib.Omega.{arith}
 use lib.Dec.{leb}
-use borrow.Author.Tests.{le-leb, lt-leb}
+use borrow.Author.Tests.{le-leb, lt-leb, leb-true}
+use Rattle.ticks.specs.Ticks.{ticksPerUnit}
 use Rattle.fields.specs.declared.refusal.Refusal.{Refusal}
-use Rattle.fields.specs.declared.refusal.Refusal.the-variants.{Stress}
+use Rattle.fields.specs.declared.refusal.Refusal.the-variants.{Stress, Overstress}
 use Rattle.fields.specs.Outcomes.{Gives, Refuses}
-use Rattle.fields.specs.Limits.{leastStress}
+use Rattle.fields.specs.Limits.{leastStress, mostOfStrength, hundredths, strengths}
 use Rattle.formulas.specs.Conditions.{stressLimit}
-use Rattle.stages.specs.Run.{after}
+use Rattle.stages.specs.Run.{after, lifted}
+
+-- ---- a test
+
+tested : (test : Bool) (value : ℕ) (otherwise : Refusal) {given : ℕ} → cond test (Gives value) (Refuses otherwise) ≡ Gives given
+    → (test ≡ true) × (given ≡ value)
+tested true value otherwise e = (refl, cc)
+tested false value otherwise e = let never : _≡_ {A = ℕ} 0 1 = cc in absurd (omega arith)
+
+not-passed : (test : Bool) (value : ℕ) (otherwise : Refusal) {refusal : Refusal}
+    → cond test (Gives value) (Refuses otherwise) ≡ Refuses refusal → otherwise ≡ refusal
+not-passed true value otherwise e = let never : _≡_ {A = ℕ} 0 1 = cc in absurd (omega arith)
+not-passed false value otherwise e = cc
+
+-- ---- a loss
 
 module _ (place stress loss : ℕ) where
   pub leaves : loss + leastStress ≤ stress → Gives (stress - loss) ≡ after place stress loss
@@ -20,17 +35,38 @@ module _ (place stress loss : ℕ) where
   pub goes : stress < loss + leastStress → Refuses (Stress place) ≡ after place stress loss
   goes h = rw (lt-leb (loss + leastStress) stress h)
 
-  most : (enough : Bool) (left : ℕ) → cond enough (Gives (stress - loss)) (Refuses (Stress place)) ≡ Gives left → left ≤ stress
-  most true left e = let same : stress - loss ≡ left = cc in omega arith
-  most false left e = let never : _≡_ {A = ℕ} 0 1 = cc in absurd (omega arith)
+  -- a loss that leaves 1,000 psi, and what it leaves
+  pub after-gives : (left : ℕ) → after place stress loss ≡ Gives left → (loss + leastStress ≤ stress) × (left ≡ stress - loss)
+  after-gives left e =
+      let (enough, is) = tested (leb (loss + leastStress) stress) (stress - loss) (Stress place) e in (leb-true (loss + leastStress) stress enough, is)
 
   pub left-fits : (left : ℕ) → stress < stressLimit → after place stress loss ≡ Gives left → left < stressLimit
-  left-fits left fits e = omega (arith, most (leb (loss + leastStress) stress) left e)
-
-  gone : (enough : Bool) {refusal : Refusal} → cond enough (Gives (stress - loss)) (Refuses (Stress place)) ≡ Refuses refusal
-      → Stress place ≡ refusal
-  gone true e = let never : _≡_ {A = ℕ} 0 1 = cc in absurd (omega arith)
-  gone false e = cc
+  left-fits left fits e = let (enough, is) = after-gives left e in omega arith
 
   pub refuses-stress : {refusal : Refusal} → after place stress loss ≡ Refuses refusal → Stress place ≡ refusal
-  refuses-stress e = gone (leb (loss + leastStress) stress) e
+  refuses-stress e = not-passed (leb (loss + leastStress) stress) (stress - loss) (Stress place) e
+
+-- ---- a gain
+
+module _ (number strength stress gain : ℕ) where
+  -- 0.80 F, in hundredths of ticks
+  abbrev most : ℕ
+  most = mostOfStrength * strength * ticksPerUnit
+
+  pub lifts : hundredths * (stress + gain) ≤ most → Gives (stress + gain) ≡ lifted number strength stress gain
+  lifts h = rw (le-leb (hundredths * (stress + gain)) most h)
+
+  pub passes-limit : most < hundredths * (stress + gain) → Refuses (Overstress number) ≡ lifted number strength stress gain
+  passes-limit h = rw (lt-leb (hundredths * (stress + gain)) most h)
+
+  -- a gain that does not lead past 0.80 F, and where it leads
+  pub lifted-gives : (risen : ℕ) → lifted number strength stress gain ≡ Gives risen
+      → (hundredths * (stress + gain) ≤ most) × (risen ≡ stress + gain)
+  lifted-gives risen e =
+      let (low, is) = tested (leb (hundredths * (stress + gain)) most) (stress + gain) (Overstress number) e in (leb-true (hundredths * (stress + gain)) most low, is)
+
+  pub lifted-fits : (risen : ℕ) → strength ≤ strengths .high → lifted number strength stress gain ≡ Gives risen → risen < stressLimit
+  lifted-fits risen strong e = let (low, is) = lifted-gives risen e in omega arith
+
+  pub refuses-overstress : {refusal : Refusal} → lifted number strength stress gain ≡ Refuses refusal → Overstress number ≡ refusal
+  refuses-overstress e = not-passed (leb (hundredths * (stress + gain)) most) (stress + gain) (Overstress number) e

@@ -1,6 +1,6 @@
--- The three losses of an interval fit together, and what is said of its row where it is passed and where it is not. Each share and the
--- logarithms are differences of the interval's ends, no more than what stands at the later, so that every loss has its bounds. Assumes
--- nothing.
+-- The three losses of an interval fit together, as does the gain, and what is said of its row where it is passed and where it is not.
+-- Each share, the logarithms and the rise of g are differences of the interval's ends, no more than what stands at the later, so that
+-- every loss and the gain have their bounds. Assumes nothing.
 use mathlib.Core.Path.{_≡_}
 use mathlib.Core.Bool.{true}
 use Prim.Native.Nat.{ℕ, _-_, _^_, _≤_, _<_}
@@ -8,17 +8,17 @@ use native.Mathlib.Omega.{arith}
 use Rattle.fields.specs.declared.refusal.Refusal.{Refusal}
 use Rattle.fields.specs.Outcomes.{OrRefusal, Gives, Refuses, onward}
 use Rattle.fields.specs.Refusals.{mayAlterScratch}
-use Rattle.fields.proofs.Onward.{through, refused}
+use Rattle.fields.proofs.Onward.{through, refused, of-refused}
 use Rattle.member.specs.declared.Member.{Member}
 use Rattle.formulas.specs.Steps.{concreteStress}
-use Rattle.formulas.specs.Conditions.{stressLimit, ConcreteFits, CreepFits, ShrinkageFits, RelaxationFits}
+use Rattle.formulas.specs.Conditions.{stressLimit, ConcreteFits, CreepFits, ShrinkageFits, RelaxationFits, GainFits}
 use Rattle.formulas.proofs.Laws.{concrete-most, creep-most, shrinkage-most, relaxation-most}
 use Rattle.stages.specs.declared.ends.End.{End}
 use Rattle.stages.specs.declared.intervals.Losses.{Losses}
 use Rattle.stages.specs.declared.intervals.Row.{Row}
-use Rattle.stages.specs.Run.{after, lossesBetween, together, rowOf, rowBetween}
-use Rattle.stages.specs.Conditions.{PassFits}
-use Rattle.stages.proofs.Leaving.{left-fits, refuses-stress}
+use Rattle.stages.specs.Run.{after, lifted, lossesBetween, together, gainBetween, rowOf, rowBetween}
+use Rattle.stages.specs.Conditions.{Bounded, PassFits}
+use Rattle.stages.proofs.Leaving.{lifted-fits, refuses-stress, refuses-overstress}
 
 pub record LossesFit (losses : Losses) : Type 0 where
   pub creep-fits : losses .creep ≤ 2 ^ 59
@@ -43,7 +43,7 @@ module _ (m : Member) (stress : ℕ) (start end : End) (fits : PassFits m stress
   relaxation : RelaxationFits (m .«ultimate_strength») stress (end .logarithm - start .logarithm)
   relaxation = record {
     strength-least = fits .member .strength;
-    strength-fits = fits .member .strength-fits;
+    strength-fits = omega arith;
     stress-fits = fits .stress-fits;
     logarithms-fit = omega arith;
   }
@@ -55,25 +55,56 @@ module _ (m : Member) (stress : ℕ) (start end : End) (fits : PassFits m stress
     relaxation-fits = omega (arith, relaxation-most (m .steel) relaxation);
   }
 
+  -- the gain, from a rise of g
+  pub rise-fits : GainFits (m .es) (m .ec) (end .g - start .g)
+  rise-fits = record {
+    es-fits = fits .member .es-fits;
+    ec-least = fits .member .ec;
+    ec-fits = fits .member .ec-fits;
+    rise-fits = omega arith;
+  }
+
   pub losses-fit : (losses : Losses) → losses ≡ lossesBetween m stress start end → LossesFit losses
   losses-fit losses is = rw is between-fit
 
+-- ---- the row
+
 module _ (m : Member) (number stress : ℕ) (start end : End) (losses : Losses) (is : losses ≡ lossesBetween m stress start end) where
-  pub row-is : (left : OrRefusal ℕ) → left ≡ after number stress (together losses)
-      → onward left (λ stress. Gives (rowOf losses stress)) ≡ rowBetween m number stress start end
-  row-is left e = rw (e, is)
+  -- where the losses leave too little, and where they leave enough
+  pub row-refused : {refusal : Refusal} → after number stress (together losses) ≡ Refuses refusal
+      → Refuses refusal ≡ rowBetween m number stress start end
+  row-refused e = rw (rw is at e)
+
+  pub row-is : {left gain : ℕ} (risen : OrRefusal ℕ) → after number stress (together losses) ≡ Gives left
+      → gain ≡ gainBetween m start end → risen ≡ lifted number (m .«ultimate_strength») left gain
+      → onward risen (λ stress. Gives (rowOf losses stress gain)) ≡ rowBetween m number stress start end
+  row-is risen e g l = rw (l, g, is, rw is at e)
 
 module _ (m : Member) (number stress : ℕ) (start end : End) where
-  abbrev lost : Losses
-  lost = lossesBetween m stress start end
+  abbrev losses : Losses
+  losses = lossesBetween m stress start end
 
-  pub row-fits : {row : Row} → stress < stressLimit → rowBetween m number stress start end ≡ Gives row → row .stress < stressLimit
-  row-fits {row} fits e =
-      let left = through (after number stress (together lost)) _ e in
-      let same : left .from ≡ row .stress = cc in
-      omega (arith, left-fits number stress (together lost) (left .from) fits (left .given-is))
+  abbrev lost : ℕ
+  lost = together losses
+
+  abbrev gain : ℕ
+  gain = gainBetween m start end
+
+  pub row-fits : {row : Row} → Bounded m → rowBetween m number stress start end ≡ Gives row → row .stress < stressLimit
+  row-fits {row} bounds e =
+      let left = through (after number stress lost) _ e in
+      let risen = through (lifted number (m .«ultimate_strength») (left .from) gain) _ (left .next-is) in
+      let same : risen .from ≡ row .stress = cc in
+      omega (
+        arith,
+        lifted-fits number (m .«ultimate_strength») (left .from) gain (risen .from) (bounds .strength-most) (risen .given-is),
+      )
 
   pub row-refuses : {refusal : Refusal} → rowBetween m number stress start end ≡ Refuses refusal → mayAlterScratch refusal ≡ true
-  row-refuses e =
-      let gone = refused (after number stress (together lost)) (rowOf lost) e in
-      rw (← refuses-stress number stress (together lost) gone)
+  row-refuses =
+      of-refused (λ refusal. mayAlterScratch refusal ≡ true) (after number stress lost) _
+      (λ early gone. rw (← refuses-stress number stress lost gone))
+      (λ left late e.
+      rw (← refuses-overstress number (m .«ultimate_strength») left gain
+      (refused (lifted number (m .«ultimate_strength») left gain)
+      (λ risen. rowOf losses risen gain) e)))

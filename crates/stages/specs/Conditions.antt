@@ -7,9 +7,10 @@ use Rattle.ticks.specs.Ticks.{T}
 use Rattle.logarithm.specs.Logarithm.{serviceLife, lastThreshold}
 use Rattle.logarithm.specs.Table.{IsTable}
 use Rattle.member.specs.declared.Member.{Member}
-use Rattle.fields.specs.Limits.{mostMoment, mostKappa, mostAges}
-use Rattle.formulas.specs.Conditions.{stressLimit, frictionLimit, slipLimit, lengthLimit, deflectorLimit, leastStrength, strengthLimit}
-use Rattle.formulas.specs.Conditions.{esLimit, eciLimit, eccentricityLimit, creepLimit, shrinkageLimit}
+use Rattle.fields.specs.Limits.{strengths, mostMoment, mostKappa, mostAges}
+use Rattle.formulas.specs.Conditions.{stressLimit, frictionLimit, slipLimit, lengthLimit, deflectorLimit, leastStrength, esLimit}
+use Rattle.formulas.specs.Conditions.{eciLimit, leastEc, ecLimit, leastInertia, mostMomentStress, eccentricityLimit, creepLimit}
+use Rattle.formulas.specs.Conditions.{shrinkageLimit, gainLimit}
 use Rattle.stages.specs.declared.ends.End.{End}
 use Rattle.stages.specs.Run.{jacked, transferEnd}
 
@@ -18,7 +19,7 @@ use Rattle.stages.specs.Run.{jacked, transferEnd}
 pub record Bounded (m : Member) : Type 0 where
   pub transfer : m .hours .transfer ≤ serviceLife
   pub strength : leastStrength ≤ m .«ultimate_strength»
-  pub strength-fits : m .«ultimate_strength» < strengthLimit
+  pub strength-most : m .«ultimate_strength» ≤ strengths .high
   pub jacking-fits : jacked m < stressLimit
   pub deflector-fits : m .«deflector_loss» < deflectorLimit
   pub slip-fits : m .slip < slipLimit
@@ -27,7 +28,9 @@ pub record Bounded (m : Member) : Type 0 where
   pub es-fits : m .es < esLimit
   pub eci : 1 ≤ m .eci
   pub eci-fits : m .eci < eciLimit
-  pub inertia : 1 ≤ m .inertia
+  pub ec : leastEc ≤ m .ec
+  pub ec-fits : m .ec < ecLimit
+  pub inertia : leastInertia ≤ m .inertia
   pub eccentricity-fits : m .eccentricity < eccentricityLimit
   pub own-weight-fits : m .«own_weight_moment» ≤ mostMoment
   pub friction-fits : m .friction < frictionLimit
@@ -40,6 +43,7 @@ pub record Bounded (m : Member) : Type 0 where
 
 -- what stands at an end
 pub record EndBounded (end : End) : Type 0 where
+  pub g-fits : end .g ≤ mostMomentStress
   pub creep-fits : end .creep ≤ T
   pub shrinkage-fits : end .shrinkage ≤ T
   pub logarithm-fits : end .logarithm ≤ lastThreshold
@@ -60,6 +64,12 @@ pub record BeginFits (m : Member) (transfer : End) : Type 0 where
 pub record LossFits (m : Member) (transfer : End) (stress : ℕ) : Type 0 where
   pub begin : BeginFits m transfer
   pub stress-fits : stress < stressLimit
+
+-- what a gain asks of the stress that it lifts
+pub record LiftFits (ultimateStrength stress gain : ℕ) : Type 0 where
+  pub strength-most : ultimateStrength ≤ strengths .high
+  pub stress-fits : stress < stressLimit
+  pub gain-fits : gain < gainLimit
 
 -- what passing an interval asks
 pub record PassFits (m : Member) (stress : ℕ) (end : End) : Type 0 where

@@ -1,18 +1,19 @@
--- The promise rests on it. The losses in their order and the stress that each leaves: document 01, "Steps", and row "stress".
+-- The promise rests on it. The losses in their order and the stress that each leaves: document 01, "Steps", and row "stress". At each
+-- age the gain follows, and the stress after it: document 02, W1.
 use Prim.Native.Nat.{ℕ, _+_, _-_, _*_, suc}
 use mathlib.Core.Bool.{cond}
 use lib.Dec.{leb}
 use mathlib.Core.List.{List, [], _∷_}
 use Rattle.fields.specs.declared.refusal.Refusal.{Refusal}
 use Rattle.fields.specs.Outcomes.{OrRefusal, Gives, Refuses, onward, Outcome}
-use Rattle.fields.specs.Limits.{leastStress}
+use Rattle.fields.specs.Limits.{leastStress, mostOfStrength, hundredths}
 use Rattle.ticks.specs.Ticks.{ticksPerUnit}
 use Rattle.logarithm.specs.Logarithm.{logarithm, serviceLife}
 use Rattle.coefficient.specs.declared.codes.Kind.{Kind}
 use Rattle.coefficient.specs.Coefficients.{sinceTensioning, sinceTransfer, sinceCuring, creepShare, shrinkageShare}
 use Rattle.member.specs.declared.Member.{Member}
 use Rattle.formulas.specs.Steps.{frictionLoss, slipLoss, deflectorTicks, relaxationLoss, momentStress, concreteStress}
-use Rattle.formulas.specs.Steps.{shorteningLoss, creepLoss, shrinkageLoss}
+use Rattle.formulas.specs.Steps.{shorteningLoss, creepLoss, shrinkageLoss, momentGain}
 use Rattle.stages.specs.declared.path.Seated.{Seated}
 use Rattle.stages.specs.declared.before.BeforeAges.{BeforeAges}
 use Rattle.fields.specs.Quantities.{Age, Quantities, quantitiesRead}
@@ -124,16 +125,35 @@ lossesBetween m stress start end = record {
 abbrev pub together : Losses → ℕ
 together losses = losses .creep + losses .shrinkage + losses .relaxation
 
--- "creep, shrinkage, relaxation, stress per age"
-abbrev pub rowOf : Losses → ℕ → Row
-rowOf losses stress =
-    record { creep = losses .creep; shrinkage = losses .shrinkage; relaxation = losses .relaxation; stress = stress }
+-- document 02, W1: "After the losses of the interval ending at an age with an added moment, the stress rises by Es times the rise of g
+-- over Ec". Without a moment g does not rise, and the gain is 0.
+abbrev pub gainBetween : Member → End → End → ℕ
+gainBetween m start end = momentGain (m .es) (m .ec) (end .g - start .g)
 
--- the row of the age of this number, at which the interval ends
+-- what a gain makes of a stress, or "11 when the stress after a gain passes 0.80 F", unrounded; "place the age's number"
+abbrev pub lifted : ℕ → ℕ → ℕ → ℕ → OrRefusal ℕ
+lifted number ultimateStrength stress gain =
+    cond (leb (hundredths * (stress + gain)) (mostOfStrength * ultimateStrength * ticksPerUnit)) (Gives (stress + gain))
+    (Refuses (Refusal.Overstress number))
+
+-- "creep, shrinkage, relaxation, stress per age", and the gain "as a fifth per age, after the stress, which is that after the gain"
+abbrev pub rowOf : Losses → ℕ → ℕ → Row
+rowOf losses stress gain = record {
+  creep = losses .creep;
+  shrinkage = losses .shrinkage;
+  relaxation = losses .relaxation;
+  stress = stress;
+  gain = gain;
+}
+
+-- the row of the age of this number, at which the interval ends: 7 is "after a loss", 11 "right after that gain"
 abbrev pub rowBetween : Member → ℕ → ℕ → End → End → OrRefusal Row
 rowBetween m number stress start end =
     let losses = lossesBetween m stress start end in
-    onward (after number stress (together losses)) (λ left. Gives (rowOf losses left))
+    let gain = gainBetween m start end in
+    onward (after number stress (together losses)) (λ left.
+    onward (lifted number (m .«ultimate_strength») left gain) (λ stress.
+    Gives (rowOf losses stress gain)))
 
 -- what all ages give: their rows, and the stress after the last
 pub record Aged : Type 0 where

@@ -1,4 +1,4 @@
-// The losses of an interval, from its two ends, and the row of the age at which it ends.
+// The losses of an interval and the gain at its end, from its two ends, and the row of the age at which it ends.
 ghost use mathlib.Core.Path.{_≡_};
 ghost use Rattle.stages.specs.Run.{lossesBetween, rowBetween};
 ghost use Rattle.stages.specs.Conditions.{PassFits};
@@ -15,12 +15,13 @@ pub struct Losses {
     pub relaxation: u64,
 }
 
-// The losses of an age and the stress after them.
+// The losses of an age; the stress after them and after the gain; and the gain.
 pub struct Row {
     pub creep: u64,
     pub shrinkage: u64,
     pub relaxation: u64,
     pub stress: u64,
+    pub gain: u64,
 }
 
 pub enum Passed {
@@ -48,19 +49,26 @@ fn losses_between(m: Member, stress: u64, start: End, end: End) -> Losses
     }
 }
 
-// All three losses leave the stress together. The interval ends at the age of this number.
+// All three losses leave the stress together, and the gain follows. The interval ends at the age of this number.
 pub fn pass(m: Member, number: u64, stress: u64, start: End, end: End) -> Passed
     requires { ⌜ PassFits m stress end ⌝ }
     ensures { λ r. ⌜ rowGiven r ≡ rowBetween m number stress start end ⌝ }
 {
     let losses = losses_between(m, stress, start, end);
     let together = losses.creep + losses.shrinkage + losses.relaxation;
-    match stress::after(number, stress, together) {
-        NumberOrRefusal::Number(left) => Passed::By(Row {
+    let rise = formulas::difference(end.g, start.g);
+    let gain = formulas::moment_gain(m.es, m.ec, rise);
+    let left = match stress::after(number, stress, together) {
+        NumberOrRefusal::Number(left) => left,
+        NumberOrRefusal::Refused(refusal) => return Passed::Refused(refusal),
+    };
+    match stress::lifted(number, m.ultimate_strength, left, gain) {
+        NumberOrRefusal::Number(stress) => Passed::By(Row {
             creep: losses.creep,
             shrinkage: losses.shrinkage,
             relaxation: losses.relaxation,
-            stress: left,
+            stress,
+            gain,
         }),
         NumberOrRefusal::Refused(refusal) => Passed::Refused(refusal),
     }

@@ -78,7 +78,8 @@ none-lined fields report old segments ages = record {
 -- the numbers of an age's line
 abbrev ageNumbers : List ℕ → List ℕ → ℕ → ℕ → ℕ → List ℕ
 ageNumbers fields report field row age =
-    age ∷ getD fields field 0 ∷ getD report row 0 ∷ getD report (row + 1) 0 ∷ getD report (row + 2) 0 ∷ getD report (row + 3) 0 ∷ []
+    age ∷ getD fields field 0 ∷ getD report row 0 ∷ getD report (row + 1) 0 ∷ getD report (row + 2) 0 ∷ getD report (row + 3) 0
+    ∷ getD report (row + 4) 0 ∷ []
 
 next-text : (fields report : List ℕ) (left field row age : ℕ)
     → linesOfAges age (agesFrom (suc left) (drop field fields)) (drop row report)
@@ -92,6 +93,7 @@ next-text fields report left field row age =
       getD-drop row report 1 0,
       getD-drop row report 2 0,
       getD-drop row report 3 0,
+      getD-drop row report 4 0,
       drop-drop perAge field fields,
       drop-drop perRow row report,
       add-zero field,

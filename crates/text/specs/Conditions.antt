@@ -51,5 +51,6 @@ Counted bytes buffer = (bytes ≤ length buffer) × (bytes ≡ length (take byte
 unfoldable pub linesOfAges : ℕ → List Age → List ℕ → List ℕ
 linesOfAges passed [] numbers = []
 linesOfAges passed (age ∷ ages) numbers =
-    lineOf (suc passed ∷ age .hour ∷ getD numbers 0 0 ∷ getD numbers 1 0 ∷ getD numbers 2 0 ∷ getD numbers 3 0 ∷ [])
+    lineOf
+    (suc passed ∷ age .hour ∷ getD numbers 0 0 ∷ getD numbers 1 0 ∷ getD numbers 2 0 ∷ getD numbers 3 0 ∷ getD numbers 4 0 ∷ [])
     ++ linesOfAges (suc passed) ages (drop perRow numbers)

@@ -23,7 +23,8 @@ refusalText refusal = lineOf (number refusal ∷ place refusal ∷ [])
 abbrev pub beforeText : BeforeAges → List ℕ
 beforeText before = lineOf (numbersBefore before)
 
--- "then age number, hour, creep, shrinkage, relaxation, stress": a line for each age that follows `passed` others, with its row
+-- "then age number, hour, creep, shrinkage, relaxation, stress", and the gain: a line for each age that follows `passed` others, with
+-- its row
 unfoldable pub agesText : ℕ → List Age → List Row → List ℕ
 agesText passed [] rows = []
 agesText passed (age ∷ ages) [] = []

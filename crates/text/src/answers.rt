@@ -73,6 +73,7 @@ fn put_ages(
                 report[row + 1],
                 report[row + 2],
                 report[row + 3],
+                report[row + 4],
             ],
         );
         field += PER_AGE;

@@ -18,12 +18,13 @@ use Rattle.tolerance.specs.Demand.{narrowStep, wideStep}
 use Rattle.tolerance.proofs.Logarithms.{mostAbove, Logs, table-logs, admissible-logs}
 use Rattle.tolerance.proofs.Bounds.{shrinkageError}
 use Rattle.tolerance.proofs.Creep.{creepError}
+use Rattle.tolerance.proofs.Gain.{gainError}
 use Rattle.tolerance.proofs.Relaxation.{yieldPart, relaxationErrorBy}
 use Rattle.tolerance.proofs.RelaxationSlope.{aboveYield, mostStress}
 
--- an age's three losses, by logarithms up to δ above the table's
+-- an age's three losses, by logarithms up to δ above the table's, and its gain
 abbrev pub ageErrorBy : ℕ → ℕ
-ageErrorBy δ = creepError + shrinkageError + relaxationErrorBy δ
+ageErrorBy δ = creepError + shrinkageError + relaxationErrorBy δ + gainError
 
 -- logarithms at most δ above the table's, and an allowance that covers every step with them
 pub record Allowance (δ step : ℕ) (choice : Choice) : Type 0 where

@@ -1,9 +1,10 @@
 -- The constants of an accepted member, κ, U and S, in ticks and in fractions, and what they and its stresses do not exceed: each is a
 -- quotient, rounded once for each of its divisions, and the member has the bounds. Assumes nothing.
 use Prim.Native.Nat.{ℕ, _*_, _≤_}
-use native.Mathlib.Nat.{le-trans}
+use native.Mathlib.Nat.{le-trans, mul-le-mul-right}
 use native.Mathlib.Omega.{arith}
 use lib.Dec.{lit<, lit≤}
+use lib.Ieee.Nearest.{div-mono}
 use Rattle.fraction.specs.Fraction.{whole}
 use Rattle.coefficient.specs.Coefficients.{scf, ssf, mcf, ucr, ush}
 use Rattle.ticks.specs.Ticks.{ticksPerUnit}
@@ -63,7 +64,15 @@ module _ {q : Quantities} {report scratch : ℕ} (facts : Facts q report scratch
   moment-rounded moments =
       floor-rounded (moments * q .eccentricity) (q .inertia) (le-trans (lit≤ tt) (facts .head .section .inertia-least))
 
-  -- none is above the jacking stress
+  -- g does not fall where moments are added
+  pub moment-rises : (moments added : ℕ) → moments ≤ added
+      → ticksMomentStress moments (q .eccentricity) (q .inertia) ≤ ticksMomentStress added (q .eccentricity) (q .inertia)
+  moment-rises moments added h =
+      let some = le-trans (lit≤ tt) (facts .head .section .inertia-least) in
+      div-mono (moments * q .eccentricity) (q .inertia) (added * q .eccentricity) (q .inertia) some some
+      (mul-le-mul-right (q .inertia) (mul-le-mul-right (q .eccentricity) h))
+
+  -- none before the ages is above the jacking stress
   pub low : (stress : ℕ) → stress ≤ jacked q → Low q stress
   low stress h = let most = facts .head .jacking-most in omega arith
 

@@ -47,14 +47,14 @@ module _ {q : Quantities} {report scratch : ℕ} (facts : Facts q report scratch
 
   module _ {δ step : ℕ} {choice : Choice} (allowed : Allowance δ step choice) where
     pub steps-close : {n : ℕ} {steps : List (Fraction → Fraction)} {later : List ℕ} → EachKeepsDistance (mostStressOf q) steps
-        → EachNear step n steps later → Low q n → (k : ℕ) (y : Fraction) → k + length later ≤ mostSteps
+        → EachNear q step n steps later → Low q n → (k : ℕ) (y : Fraction) → k + length later ≤ mostSteps
         → Within (whole (k * step)) (whole n) y → Chain step k later (stressesBy steps y)
     unfolding stressesBy
     steps-close none-keeps none-near n≤ k y k≤ so-far = no-step
-    steps-close (one-keeps {step = exact} keeps keep) (one-near n near nears falls) n≤ k y k≤ so-far =
+    steps-close (one-keeps {step = exact} keeps keep) (one-near n near nears left≤) n≤ k y k≤ so-far =
         let y≤ = near-in-room n (k * step) y n≤ (steps-top allowed k (omega arith)) so-far in
         let next = within-weaken (one-step-more k step) (step-close keeps (core-in-room n n≤) y≤ near so-far) in
-        one-step next (steps-close keep nears (omega arith) (suc k) (exact y) (omega arith) next)
+        one-step next (steps-close keep nears left≤ (suc k) (exact y) (omega arith) next)
 
     -- ---- the steps after slip of a run
 
@@ -81,7 +81,7 @@ module _ {q : Quantities} {report scratch : ℕ} (facts : Facts q report scratch
           (after-shortening-near facts choice (coreAfterEarly q before) (low facts (coreAfterEarly q before) (omega arith))
           (omega (arith, began .closes, began .shortening)))
 
-      pub run-near : EachNear step (coreAfterSlip q before) (stepsAfterSlip choice q)
+      pub run-near : EachNear q step (coreAfterSlip q before) (stepsAfterSlip choice q)
           (coreAfterEarly q before ∷ before .stress ∷ stressesOf rows)
       run-near =
           let covers = allowed .covers in
@@ -94,8 +94,8 @@ module _ {q : Quantities} {report scratch : ℕ} (facts : Facts q report scratch
           relaxed deflected))
           (one-near (coreAfterEarly q before) (within-weaken (whole-order (omega arith)) shortened)
           (ages-near facts allowed ran (facts .ages-rise) (low facts (before .stress) (omega (arith, began .closes))))
-          (omega (arith, began .closes)))
-          (omega arith)
+          (low facts (before .stress) (omega (arith, began .closes))))
+          (low facts (coreAfterEarly q before) (omega arith))
 
       -- from the core's stress after slip and any exact stress near it, k steps having been counted
       pub after-slip-close : (k : ℕ) (y : Fraction) → k + length (q .ages) + 2 ≤ mostSteps

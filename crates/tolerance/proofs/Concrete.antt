@@ -18,7 +18,7 @@ use Rattle.tolerance.specs.Formulas.{_÷_, concreteStress}
 use Rattle.tolerance.proofs.Quotients.{quotient-not-negative}
 use Rattle.tolerance.proofs.Rounded.{Rounded, rounded-part, rounded-difference}
 
--- 0.80 F at the highest F, in ticks: no stress is above the jacking stress
+-- 0.80 F at the highest F, in ticks: no stress is above it
 abbrev pub highestStress : ℕ
 highestStress = range .jackingStress .high * ticksPerUnit
 

@@ -1,9 +1,9 @@
 -- Demand 3 of document 01, proved of every accepted run. Along the path both stresses come from the jacking stress, slip is one step
 -- more, and the steps after slip keep near from there on; the two tolerances are one lemma, at the allowances of 1 and of 40 psi a
--- step. That no stress rises, that the losses and the last stress add up to the jacking stress, and that the numbers are those
--- reported, is read off the run. Assumes nothing.
+-- step. That no stress rises before the ages and none by more than its gain at them, that the losses and the last stress add up to the
+-- jacking stress and the gains, and that the numbers are those reported, is read off the run. Assumes nothing.
 use mathlib.Core.Path.{_≡_, _∙_}
-use mathlib.Core.List.{List, _∷_}
+use mathlib.Core.List.{List, [], _∷_, _++_, append-assoc}
 use Prim.Native.Nat.{ℕ, suc, _+_, _-_, _*_, _≤_}
 use native.Mathlib.Nat.{le-refl, le-trans, min-le-left, mul-le-mul-left, mul-le-mul-right}
 use native.Mathlib.Omega.{arith}
@@ -24,15 +24,15 @@ use Rattle.member.specs.Facts.{Facts}
 use Rattle.stages.specs.declared.before.BeforeAges.{BeforeAges}
 use Rattle.stages.specs.Run.{Report, memberResult}
 use Rattle.tolerance.specs.Method.{Choice, stressAlong, afterDeflector}
-use Rattle.tolerance.specs.Demand.{stepsOf, exactAfterSlip, exactStresses, coreAfterSlip, coreAfterDeflector, coreAfterEarly}
-use Rattle.tolerance.specs.Demand.{stressesOf, coreStresses, Close, Falls, Linked, Demand3, lossesBefore, lossesOfRows}
+use Rattle.tolerance.specs.Demand.{stepsOf, each, exactAfterSlip, exactStresses, coreAfterSlip, coreAfterDeflector, coreAfterEarly}
+use Rattle.tolerance.specs.Demand.{stressesOf, coreBeforeAges, coreStresses, Close, Falls, Linked, Demand3, lossesBefore, lossesOfRows, gainsOfRows}
 use Rattle.tolerance.proofs.Path.{pathError, friction-of-part, segments-fit-take, friction-leaves, path-close, stress-falls}
 use Rattle.tolerance.proofs.Concrete.{highestStress}
 use Rattle.tolerance.proofs.Bounds.{low, low-top}
 use Rattle.tolerance.proofs.Allowance.{Allowance, narrow-allowance, wide-allowance}
 use Rattle.tolerance.proofs.Chains.{Chain, one-step, chain-at, chain-lengths, chain-each, falls-each}
 use Rattle.tolerance.proofs.Chains.{each-length-then, each-then}
-use Rattle.tolerance.proofs.Run.{Began, AgesRun, run, ages-fall, ages-close-up, ages-end, rows-count, stresses-count}
+use Rattle.tolerance.proofs.Run.{Began, AgesRun, run, ages-rise, ages-close-up, ages-end, rows-count, stresses-count}
 use Rattle.tolerance.proofs.Distance.{slip-keeps-distance, deflector-keeps-distance}
 use Rattle.tolerance.proofs.Near.{slipError, after-slip-near}
 use Rattle.tolerance.proofs.Closeness.{step-close, deflected, after-slip-close}
@@ -43,16 +43,23 @@ module _ {q : Quantities} {report scratch : ℕ} (facts : Facts q report scratch
   abbrev before : BeforeAges
   before = given .before
 
-  -- the core's stresses after the path
+  -- the core's stresses after the path: before the ages, and all of them
+  abbrev toAges : List ℕ
+  toAges = coreAfterSlip q before ∷ coreAfterEarly q before ∷ before .stress ∷ []
+
   abbrev rest : List ℕ
-  rest = coreAfterSlip q before ∷ coreAfterEarly q before ∷ before .stress ∷ stressesOf (given .rows)
+  rest = toAges ++ stressesOf (given .rows)
 
   -- the core's stress after so many segments
   abbrev along : ℕ → ℕ
   along j = ticksAlong q (take j (q .path))
 
+  in-parts : coreStresses q given ≡ each (length (q .path)) along ++ rest
+  in-parts = append-assoc (each (length (q .path)) along) toAges (stressesOf (given .rows))
+
   count : length (coreStresses q given) ≡ stepsOf q
-  count = omega (arith, each-length-then along (length (q .path)) rest, stresses-count (given .rows), rows-count ran)
+  count =
+      rw in-parts (omega (arith, each-length-then along (length (q .path)) rest, stresses-count (given .rows), rows-count ran))
 
   -- ---- near after every step
 
@@ -104,9 +111,10 @@ module _ {q : Quantities} {report scratch : ℕ} (facts : Facts q report scratch
 
     chain : Chain step 0 (coreStresses q given) (exactStresses choice q)
     chain =
-        chain-each step (length (q .path)) along (λ j. stressAlong choice q (take j (q .path))) along-path
+        rw in-parts
+        (chain-each step (length (q .path)) along (λ j. stressAlong choice q (take j (q .path))) along-path
         (one-step after-slip
-        (after-slip-close facts allowed began ran (suc (length (q .path))) (exactAfterSlip choice q) (omega arith) after-slip))
+        (after-slip-close facts allowed began ran (suc (length (q .path))) (exactAfterSlip choice q) (omega arith) after-slip)))
 
     close : Close step choice q given
     close = record {
@@ -125,22 +133,22 @@ module _ {q : Quantities} {report scratch : ℕ} (facts : Facts q report scratch
   end-of-path : along (length (q .path)) ≡ jacked q - before .friction
   end-of-path = rw (began .friction, take-all (length (q .path)) (q .path) (le-refl (length (q .path))))
 
-  rest-falls : Falls (jacked q - before .friction) rest
+  to-ages-fall : Falls (jacked q - before .friction) toAges
   unfolding Falls
-  rest-falls = let adds-up = began .closes in (omega arith, (omega arith, (omega arith, ages-fall ran)))
+  to-ages-fall = let adds-up = began .closes in (omega arith, (omega arith, (omega arith, tt)))
 
-  falls : Falls (jacked q) (coreStresses q given)
+  falls : Falls (jacked q) (coreBeforeAges q before)
   falls =
       rw start-of-path at
-      (falls-each (length (q .path)) along rest (λ j. stress-falls q j (suc j) (omega arith)) (rw end-of-path rest-falls))
+      (falls-each (length (q .path)) along toAges (λ j. stress-falls q j (suc j) (omega arith)) (rw end-of-path to-ages-fall))
 
-  closes : jacked q ≡ given .last + lossesBefore before + lossesOfRows (given .rows)
+  closes : jacked q + gainsOfRows (given .rows) ≡ given .last + lossesBefore before + lossesOfRows (given .rows)
   closes = omega (arith, began .closes, ages-close-up ran)
 
   reported-last : getD (coreStresses q given) (length (q .path) + length (q .ages) + 2) 0 ≡ given .last
   reported-last =
       let place : length (q .path) + length (q .ages) + 2 ≡ length (q .path) + suc (suc (length (q .ages))) = omega arith in
-      rw (place, each-then along (length (q .path)) rest (suc (suc (length (q .ages)))) 0) (ages-end ran)
+      rw (in-parts, place, each-then along (length (q .path)) rest (suc (suc (length (q .ages)))) 0) (ages-end ran)
 
   linked : Linked q given
   linked = record {
@@ -160,6 +168,7 @@ demand-3 q report scratch few-segments few-ages facts given result =
       narrow = close facts few-segments few-ages began ran narrow-allowance;
       wide = λ choice admissible. close facts few-segments few-ages began ran (wide-allowance admissible);
       falls = falls facts few-segments few-ages began ran;
+      rises = ages-rise ran;
       closes = closes facts few-segments few-ages began ran;
       linked = linked facts few-segments few-ages began ran;
     }

@@ -1,6 +1,6 @@
 -- No step of the method in fractions brings two stresses further apart, whatever two fractions they are, up to 1.1·Y. Slip and the
 -- deflector loss take the same off any stress. What the other steps take off has a slope: shortening 1, early relaxation 15/16, an
--- age's creep 17/16 and its relaxation 15/16, while its shrinkage does not depend on the stress; no step's slopes sum to more than 2.
+-- age's creep 17/16 and its relaxation 15/16, while its shrinkage and its gain do not depend on the stress; no step's slopes sum to more than 2.
 -- Assumes nothing.
 use mathlib.Core.List.{List, [], _∷_}
 use Prim.Native.Nat.{ℕ, _+_, _*_}
@@ -10,7 +10,8 @@ use lib.Dec.{lit≤}
 use Rattle.fraction.specs.Fraction.{Fraction, whole, _⊕_, _⊖_, _≼_}
 use Rattle.fraction.proofs.Certificate.{num, _⊟_, _⊑_, _⊢_, follows}
 use Rattle.fraction.proofs.Floors.{whole-order, whole-not-negative}
-use Rattle.fraction.proofs.Slopes.{KeepsDistance, constant-keeps-distance, part-keeps-distance, parts-keep-distance}
+use Rattle.fraction.proofs.Slopes.{KeepsDistance, constant-keeps-distance, raised-keeps-distance, part-keeps-distance}
+use Rattle.fraction.proofs.Slopes.{parts-keep-distance}
 use Rattle.ticks.specs.Ticks.{ticksPerUnit, T}
 use Rattle.coefficient.specs.declared.codes.Kind.{Kind}
 use Rattle.coefficient.specs.declared.codes.Kind.the-variants.{Pretensioned, PostTensioned}
@@ -64,7 +65,8 @@ module _ {q : Quantities} {report scratch : ℕ} (facts : Facts q report scratch
 
   pub age-keeps-distance : (start end : End) → Later start end → KeepsDistance (mostStressOf q) (afterAge choice q start end)
   age-keeps-distance start end later =
-      parts-keep-distance (mostStressOf q) creepSlope relaxationSlope
+      raised-keeps-distance (mostStressOf q) _ _
+      (parts-keep-distance (mostStressOf q) creepSlope relaxationSlope
       (shrinkageLoss (wholeShrinkage q) (end .shrinkage ⊖ start .shrinkage))
       (λ z. creepLoss (wholeCreep q) (end .creep ⊖ start .creep) (concreteStress z (kappa q) (start .g)))
       (λ z. relaxationLoss (steelOf (q .steel)) (q .ultimateStrength) z (end .logarithm ⊖ start .logarithm))
@@ -72,7 +74,7 @@ module _ {q : Quantities} {report scratch : ℕ} (facts : Facts q report scratch
       (creep-top q) (facts .kappa-most) (facts .creep-most) (later .creep-least) (later .creep-most) (mostStressOf q))
       (relaxation-slow (steelOf (q .steel)) (q .ultimateStrength) _ (facts .head .ultimate-least) (later .logarithm-least)
       (later .logarithm-most))
-      age-slopes
+      age-slopes)
 
   module _ {δ : ℕ} (logs : Logs δ choice) where
     early-keeps-distance-of : (kind : Kind) → KeepsDistance (mostStressOf q) (λ z. z ⊖ earlyRelaxation choice q kind z)
@@ -102,7 +104,7 @@ module _ {q : Quantities} {report scratch : ℕ} (facts : Facts q report scratch
   ages-keep-distance moments hour no-age = no-step
   ages-keep-distance moments hour (rises {age = age} on life rising) =
       let added = moments + age .moment in
-      let ends = between facts logs moments added hour (age .hour) (omega arith) life in
+      let ends = between facts logs moments added hour (age .hour) (omega arith) (omega arith) life in
       a-step
       (age-keeps-distance facts choice (endAt choice q moments hour) (endAt choice q added (age .hour)) (record {
         creep-least = ends .creep .not-negative;

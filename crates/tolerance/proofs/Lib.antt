@@ -8,6 +8,7 @@ pub mod Relaxation
 pub mod RelaxationSlope
 pub mod Shortening
 pub mod Creep
+pub mod Gain
 pub mod Bounds
 pub mod Allowance
 pub mod Run

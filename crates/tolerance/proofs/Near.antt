@@ -1,5 +1,5 @@
 -- At the same whole stress a step of the core lies near the step in fractions. What the core's step leaves differs from what the
--- exact step leaves as the two losses differ, and each loss has its own error; an age's three add up. Along a run `EachNear` says it
+-- exact step leaves as the two losses differ, and each loss has its own error; an age's three and its gain's add up. Along a run `EachNear` says it
 -- of every step after slip, from the core's own stress before the step. Assumes nothing.
 use mathlib.Core.List.{List, [], _∷_}
 use Prim.Native.Nat.{ℕ, _+_, _-_, _*_, _≤_}
@@ -7,8 +7,7 @@ use native.Mathlib.Nat.{le-trans, mul-pos}
 use native.Mathlib.Omega.{arith}
 use lib.Dec.{lit<, lit≤}
 use Rattle.fraction.specs.Fraction.{Fraction, whole, _⊕_, _⊖_, Within}
-use Rattle.fraction.specs.Equality.{_≈_}
-use Rattle.fraction.proofs.Laws.{≈-refl, ≈-sym, _⨾_, ≼-of-≈, ⊕-cong, whole-⊕}
+use Rattle.fraction.proofs.Laws.{≈-refl, ≈-sym, ≼-of-≈, whole-⊕}
 use Rattle.fraction.proofs.Floors.{whole-order, whole-not-negative}
 use Rattle.fraction.proofs.Distances.{within-refl, within-weaken, within-resp-≈, within-sum}
 use Rattle.ticks.specs.Ticks.{ticksPerUnit}
@@ -20,7 +19,7 @@ use Rattle.member.specs.Facts.{RisingFrom, rises, Facts}
 use Rattle.formulas.specs.Steps.{slipLoss as ticksSlipLoss, deflectorTicks}
 use Rattle.stages.specs.declared.ends.End.{End as TicksEnd}
 use Rattle.stages.specs.declared.intervals.Row.{Row}
-use Rattle.stages.specs.Run.{earlyRelaxation as ticksEarly, earlyRelaxationOf, shorteningOf, lossesBetween, together}
+use Rattle.stages.specs.Run.{earlyRelaxation as ticksEarly, earlyRelaxationOf, shorteningOf, lossesBetween, together, gainBetween}
 use Rattle.tolerance.specs.Formulas.{kappa}
 use Rattle.tolerance.specs.Method.{Choice, End, transferEnd, earlyRelaxation, afterSlip, afterDeflector, afterEarly}
 use Rattle.tolerance.specs.Method.{afterShortening, afterAge, ageSteps}
@@ -31,6 +30,7 @@ use Rattle.tolerance.proofs.Shares.{part-near}
 use Rattle.tolerance.proofs.Relaxation.{relaxationErrorBy, relaxation-near}
 use Rattle.tolerance.proofs.Shortening.{shorteningError, shortening-near}
 use Rattle.tolerance.proofs.Creep.{creepError, creep-near}
+use Rattle.tolerance.proofs.Gain.{gainError, gain-near}
 use Rattle.tolerance.proofs.Bounds.{Low, low-top, kappa-rounded, moment-rounded, creep-rounded, shrinkage-rounded}
 use Rattle.tolerance.proofs.Bounds.{shrinkageError, creep-top, shrinkage-top}
 use Rattle.tolerance.proofs.Allowance.{ageErrorBy, Allowance}
@@ -41,15 +41,11 @@ use Rattle.tolerance.proofs.Run.{AgesRun, no-age, an-age}
 abbrev pub slipError : ℕ
 slipError = 1
 
--- three losses together
-sum-near : (a b c d e f : ℕ) {x y z : Fraction} → Within (whole d) (whole a) x → Within (whole e) (whole b) y
-    → Within (whole f) (whole c) z → Within (whole (d + e + f)) (whole (a + b + c)) (x ⊕ y ⊕ z)
-sum-near a b c d e f near-x near-y near-z =
-    within-weaken (≼-of-≈ (≈-sym (three d e f)))
-    (within-resp-≈ (≈-sym (three a b c)) ≈-refl (within-sum (within-sum near-x near-y) near-z))
-  where
-    three : (a b c : ℕ) → whole (a + b + c) ≈ whole a ⊕ whole b ⊕ whole c
-    three a b c = whole-⊕ (a + b) c ⨾ ⊕-cong (whole-⊕ a b) ≈-refl
+-- two together
+sum-near : (a b d e : ℕ) {x y : Fraction} → Within (whole d) (whole a) x → Within (whole e) (whole b) y
+    → Within (whole (d + e)) (whole (a + b)) (x ⊕ y)
+sum-near a b d e near-x near-y =
+    within-weaken (≼-of-≈ (≈-sym (whole-⊕ d e))) (within-resp-≈ (≈-sym (whole-⊕ a b)) ≈-refl (within-sum near-x near-y))
 
 module _ {q : Quantities} {report scratch : ℕ} (facts : Facts q report scratch) (choice : Choice) (n : ℕ) where
   pub after-slip-near : ticksSlipLoss (q .Es) (q .slip) (q .tendonLength) ≤ n
@@ -92,35 +88,40 @@ module _ {q : Quantities} {report scratch : ℕ} (facts : Facts q report scratch
 
     pub after-age-near : {ticksStart ticksEnd : TicksEnd} {start end : End} → Between δ ticksStart ticksEnd start end
         → together (lossesBetween (memberOf q) n ticksStart ticksEnd) ≤ n
-        → Within (whole (ageErrorBy δ)) (whole (n - together (lossesBetween (memberOf q) n ticksStart ticksEnd)))
+        → Within (whole (ageErrorBy δ))
+        (whole (n - together (lossesBetween (memberOf q) n ticksStart ticksEnd) + gainBetween (memberOf q) ticksStart ticksEnd))
         (afterAge choice q start end (whole n))
     unfolding memberOf
     after-age-near ends fits =
-        taken-off fits
-        (sum-near _ _ _ creepError shrinkageError (relaxationErrorBy δ)
+        sum-near _ _ (creepError + shrinkageError + relaxationErrorBy δ) gainError
+        (taken-off fits
+        (sum-near _ _ (creepError + shrinkageError) (relaxationErrorBy δ)
+        (sum-near _ _ creepError shrinkageError
         (creep-near (creep-rounded q) (creep-top q) (ends .creep) (low-top facts n n≤) (facts .kappa-most) (kappa-rounded facts)
         (ends .g))
-        (part-near (shrinkage-rounded q) (shrinkage-top q) (ends .shrinkage))
+        (part-near (shrinkage-rounded q) (shrinkage-top q) (ends .shrinkage)))
         (relaxation-near (steelOf (q .steel)) (q .ultimateStrength) n (facts .head .ultimate-least) (facts .head .ultimate-most) n≤
-        (ends .logarithm)))
+        (ends .logarithm))))
+        (gain-near (q .Es) (q .Ec) (facts .head .es-most) (facts .head .ec-least) (ends .g-rises) (ends .later-g) (ends .g))
 
 -- ---- the steps of a run
 
--- the core's stresses from n on, beside steps in fractions: none rises, and each is near what its step makes of the one before
-pub data EachNear (error : ℕ) : ℕ → List (Fraction → Fraction) → List ℕ → Type 0 where
-  no-step : {n : ℕ} → EachNear error n [] []
+-- the core's stresses from n on, beside steps in fractions: none is above 0.80 F, and each is near what its step makes of the one
+-- before
+pub data EachNear (q : Quantities) (error : ℕ) : ℕ → List (Fraction → Fraction) → List ℕ → Type 0 where
+  no-step : {n : ℕ} → EachNear q error n [] []
   a-step : (n : ℕ) {left : ℕ} {step : Fraction → Fraction} {steps : List (Fraction → Fraction)} {later : List ℕ}
-      → Within (whole error) (whole left) (step (whole n)) → EachNear error left steps later → left ≤ n
-      → EachNear error n (step ∷ steps) (left ∷ later)
+      → Within (whole error) (whole left) (step (whole n)) → EachNear q error left steps later → Low q left
+      → EachNear q error n (step ∷ steps) (left ∷ later)
 
 module _ {q : Quantities} {report scratch : ℕ} (facts : Facts q report scratch) {δ step : ℕ} {choice : Choice}
     (allowed : Allowance δ step choice) where
   pub ages-near : {moments hour stress last : ℕ} {ages : List Age} {rows : List Row}
       → AgesRun q moments hour stress ages rows last → RisingFrom hour ages → Low q stress
-      → EachNear step stress (ageSteps choice q moments hour ages) (stressesOf rows)
+      → EachNear q step stress (ageSteps choice q moments hour ages) (stressesOf rows)
   unfolding ageSteps stressesOf
   ages-near no-age rising stress≤ = no-step
-  ages-near (an-age {moments} {hour} {stress} {age} fits run) (rises on life rising) stress≤ =
-      let ends = between facts (allowed .logs) moments (moments + age .moment) hour (age .hour) (omega arith) life in
+  ages-near (an-age {moments} {hour} {stress} {age} fits low run) (rises on life rising) stress≤ =
+      let ends = between facts (allowed .logs) moments (moments + age .moment) hour (age .hour) (omega arith) (omega arith) life in
       a-step stress (within-weaken (whole-order (allowed .covers)) (after-age-near facts choice stress stress≤ ends (omega arith)))
-      (ages-near run rising (omega arith)) (omega arith)
+      (ages-near run rising low) low

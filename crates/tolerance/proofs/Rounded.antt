@@ -122,18 +122,19 @@ floor-product-above a b d h = record { at-most = omega (arith, lt-mul-div-succ (
 -- ---- differences that stop at 0
 
 -- what both lose on the same side does not add up
+pub difference-near : {e x y : Fraction} {m n : ℕ} → whole 1 ≼ e → Rounded e m x → Rounded (whole 1) n y →
+    Within e (whole m ⊖ whole n) (x ⊖ y)
+difference-near {e} {x} {y} {m} {n} one r s = record {
+  above = follows (e ∷ x ∷ y ∷ whole m ∷ whole n ∷ [])
+      (λ E X Y M N. M ⊑ X ∷ Y ⊑ N ⊞ num 1 ∷ num 1 ⊑ E ∷ [] ⊢ M ⊟ N ⊑ X ⊟ Y ⊞ E) tt (r .least) (s .greatest) one;
+  below = follows (e ∷ x ∷ y ∷ whole m ∷ whole n ∷ [])
+      (λ E X Y M N. X ⊑ M ⊞ E ∷ N ⊑ Y ∷ [] ⊢ X ⊟ Y ⊑ M ⊟ N ⊞ E) tt (r .greatest) (s .least);
+}
+
 pub rounded-difference : {e x y : Fraction} {m n : ℕ} → whole 1 ≼ e → Rounded e m x → Rounded (whole 1) n y →
     Within e (whole (m - n)) (larger (x ⊖ y) (whole 0))
-rounded-difference {e} {x} {y} {m} {n} one r s =
-    within-resp-≈ (≈-sym (whole-monus m n)) ≈-refl (within-larger-constant (whole 0) near)
-  where
-    near : Within e (whole m ⊖ whole n) (x ⊖ y)
-    near = record {
-      above = follows (e ∷ x ∷ y ∷ whole m ∷ whole n ∷ [])
-          (λ E X Y M N. M ⊑ X ∷ Y ⊑ N ⊞ num 1 ∷ num 1 ⊑ E ∷ [] ⊢ M ⊟ N ⊑ X ⊟ Y ⊞ E) tt (r .least) (s .greatest) one;
-      below = follows (e ∷ x ∷ y ∷ whole m ∷ whole n ∷ [])
-          (λ E X Y M N. X ⊑ M ⊞ E ∷ N ⊑ Y ∷ [] ⊢ X ⊟ Y ⊑ M ⊟ N ⊞ E) tt (r .greatest) (s .least);
-    }
+rounded-difference {m = m} {n} one r s =
+    within-resp-≈ (≈-sym (whole-monus m n)) ≈-refl (within-larger-constant (whole 0) (difference-near one r s))
 
 -- what a loss l leaves of n, and the loss without rounding
 pub taken-off : {e loss : Fraction} {n l : ℕ} → l ≤ n → Within e (whole l) loss → Within e (whole (n - l)) (whole n ⊖ loss)

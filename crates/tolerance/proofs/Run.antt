@@ -1,45 +1,36 @@
 -- What an accepted run says of itself. A run goes on after a loss only where the loss leaves 1,000 psi, so from the reported
--- numbers each loss and stress is read off, and no difference of naturals is cut at 0: `Began` for the five losses before the ages,
--- `AgesRun` for the ages. From these alone it follows that the stresses of the ages fall, that their losses and the last stress add
--- up to the stress before them, and that the last of them is the reported last stress. Assumes nothing.
+-- numbers each loss and stress is read off, and no difference of naturals is cut at 0; and after a gain only where that does not lead
+-- past 0.80 F: `Began` for the five losses before the ages, `AgesRun` for the ages. From these alone it follows that the stress rises
+-- at an age by just its gain, that the ages' losses and the last stress add up to the stress before them and their gains, and that the
+-- last of them is the reported last stress. Assumes nothing.
 use mathlib.Core.Path.{_≡_, refl, ap, subst}
-use mathlib.Core.Bool.{Bool, true, false, cond}
 use mathlib.Core.List.{List, [], _∷_}
 use Prim.Native.Nat.{ℕ, suc, _+_, _-_, _≤_}
+use native.Mathlib.Nat.{add-zero, sub-self, mul-zero, zero-div}
 use native.Mathlib.Omega.{arith}
-use lib.Dec.{leb}
 use lib.ListN.{length, getD}
-use borrow.Author.Tests.{leb-true}
-use Rattle.fields.specs.declared.refusal.Refusal.the-variants.{Stress}
-use Rattle.fields.specs.Outcomes.{OrRefusal, Gives, Refuses, onward}
+use Rattle.fields.specs.Outcomes.{OrRefusal, Gives, onward}
 use Rattle.fields.specs.Quantities.{Quantities, Age}
 use Rattle.fields.specs.Limits.{leastStress}
 use Rattle.fields.proofs.Onward.{through}
 use Rattle.member.specs.Member.{memberOf}
 use Rattle.member.specs.Constants.{jacked, frictionAlong}
-use Rattle.formulas.specs.Steps.{slipLoss, deflectorTicks}
+use Rattle.formulas.specs.Steps.{slipLoss, deflectorTicks, momentGain}
 use Rattle.stages.specs.declared.before.BeforeAges.{BeforeAges}
 use Rattle.stages.specs.declared.intervals.Losses.{Losses}
 use Rattle.stages.specs.declared.intervals.Row.{Row}
 use Rattle.stages.specs.Run.{after, beforeAges, earlyRelaxationOf, shorteningOf, seated, begunOf, endAt, transferEnd, lossesBetween}
-use Rattle.stages.specs.Run.{together, rowOf, rowBetween, Aged, agedFrom, Report, memberResult}
-use Rattle.tolerance.specs.Demand.{coreAfterDeflector, coreAfterEarly, stressesOf, Falls, lossesBefore, lossesOfRows}
+use Rattle.stages.specs.Run.{together, lifted, gainBetween, rowOf, rowBetween, Aged, agedFrom, Report, memberResult}
+use Rattle.stages.proofs.Leaving.{after-gives, lifted-gives}
+use Rattle.tolerance.specs.Demand.{coreAfterDeflector, coreAfterEarly, stressesOf, lossesBefore, lossesOfRows, gainsOfRows}
+use Rattle.tolerance.specs.Demand.{momentStressOf, RisesByGain, EachRisesByGain}
+use Rattle.tolerance.specs.Demand.{no-age as none-rises, an-age as one-rises}
+use Rattle.tolerance.proofs.Bounds.{Low}
 
 -- ---- what a run that is not refused went through
 
 gives-same : {A : Type 0} {a b : A} → Gives a ≡ Gives b → a ≡ b
 gives-same e = cc
-
--- a loss that leaves 1,000 psi, and what it leaves
-after-gives : (place stress loss left : ℕ) → after place stress loss ≡ Gives left
-    → (loss + leastStress ≤ stress) × (left ≡ stress - loss)
-after-gives place stress loss left = by-test (leb (loss + leastStress) stress) refl
-  where
-    by-test : (b : Bool) → leb (loss + leastStress) stress ≡ b
-        → cond b (Gives (stress - loss)) (Refuses (Stress place)) ≡ Gives left
-        → (loss + leastStress ≤ stress) × (left ≡ stress - loss)
-    by-test true fits e = (leb-true (loss + leastStress) stress fits, cc)
-    by-test false fits e = let z : _≡_ {A = ℕ} 0 1 = cc in absurd (omega arith)
 
 goes-on : {B : Type 0} {b : B} (place stress loss : ℕ) (next : ℕ → OrRefusal B) → onward (after place stress loss) next ≡ Gives b
     → (loss + leastStress ≤ stress) × (next (stress - loss) ≡ Gives b)
@@ -47,6 +38,13 @@ goes-on place stress loss next e =
     let gave = through (after place stress loss) next e in
     let (fits, is) = after-gives place stress loss (gave .from) (gave .given-is) in
     (fits, rw is at (gave .next-is))
+
+rises-on : {B : Type 0} {b : B} (q : Quantities) (number stress gain : ℕ) (next : ℕ → OrRefusal B)
+    → onward (lifted number (q .ultimateStrength) stress gain) next ≡ Gives b → Low q (stress + gain) × (next (stress + gain) ≡ Gives b)
+rises-on q number stress gain next e =
+    let gave = through (lifted number (q .ultimateStrength) stress gain) next e in
+    let (low, is) = lifted-gives number (q .ultimateStrength) stress gain (gave .from) (gave .given-is) in
+    (low, rw is at (gave .next-is))
 
 -- ---- before the ages
 
@@ -97,19 +95,30 @@ lossesTo q moments hour stress age =
     lossesBetween (memberOf q) stress (endAt (memberOf q) moments hour)
     (endAt (memberOf q) (moments + age .moment) (age .hour))
 
--- each age's losses leave 1,000 psi, and its row has them and what they leave
+-- the gain at the age, the stress after both, and the row
+abbrev pub gainTo : Quantities → (moments hour : ℕ) → Age → ℕ
+gainTo q moments hour age =
+    gainBetween (memberOf q) (endAt (memberOf q) moments hour) (endAt (memberOf q) (moments + age .moment) (age .hour))
+
+abbrev pub stressTo : Quantities → (moments hour stress : ℕ) → Age → ℕ
+stressTo q moments hour stress age = stress - together (lossesTo q moments hour stress age) + gainTo q moments hour age
+
+abbrev pub rowTo : Quantities → (moments hour stress : ℕ) → Age → Row
+rowTo q moments hour stress age =
+    rowOf (lossesTo q moments hour stress age) (stressTo q moments hour stress age) (gainTo q moments hour age)
+
+-- each age's losses leave 1,000 psi, its gain does not lead past 0.80 F, and its row has them and the stress after both
 pub data AgesRun (q : Quantities) : (moments hour stress : ℕ) → List Age → List Row → ℕ → Type 0 where
   no-age : {moments hour stress : ℕ} → AgesRun q moments hour stress [] [] stress
   an-age : {moments hour stress : ℕ} {age : Age} {ages : List Age} {rows : List Row} {last : ℕ}
-      → together (lossesTo q moments hour stress age) + leastStress ≤ stress
-      → AgesRun q (moments + age .moment) (age .hour) (stress - together (lossesTo q moments hour stress age)) ages rows last
-      → AgesRun q moments hour stress (age ∷ ages)
-      (rowOf (lossesTo q moments hour stress age) (stress - together (lossesTo q moments hour stress age)) ∷ rows) last
+      → together (lossesTo q moments hour stress age) + leastStress ≤ stress → Low q (stressTo q moments hour stress age)
+      → AgesRun q (moments + age .moment) (age .hour) (stressTo q moments hour stress age) ages rows last
+      → AgesRun q moments hour stress (age ∷ ages) (rowTo q moments hour stress age ∷ rows) last
 
 ages-run : (q : Quantities) (passed moments hour stress : ℕ) (ages : List Age) (aged : Aged)
     → agedFrom (memberOf q) passed stress (endAt (memberOf q) moments hour) ages ≡ Gives aged
     → AgesRun q moments hour stress ages (aged .rows) (aged .last)
-unfolding agedFrom
+unfolding agedFrom memberOf
 ages-run q passed moments hour stress [] aged e =
     subst (λ (a : Aged). AgesRun q moments hour stress [] (a .rows) (a .last)) (gives-same e) no-age
 ages-run q passed moments hour stress (age ∷ ages) aged e =
@@ -117,12 +126,14 @@ ages-run q passed moments hour stress (age ∷ ages) aged e =
     let start = endAt m moments hour in
     let end = endAt m (moments + age .moment) (age .hour) in
     let losses = lossesBetween m stress start end in
-    let left = stress - together losses in
     let passes = through (rowBetween m (suc passed) stress start end) _ e in
-    let (fits, row) = goes-on (suc passed) stress (together losses) _ (passes .given-is) in
+    let (fits, lifts) = goes-on (suc passed) stress (together losses) _ (passes .given-is) in
+    let (low, row) = rises-on q (suc passed) (stress - together losses) (gainTo q moments hour age) _ lifts in
     let later = through _ _ (rw (← gives-same row) at (passes .next-is)) in
     subst (λ (a : Aged). AgesRun q moments hour stress (age ∷ ages) (a .rows) (a .last)) (gives-same (later .next-is))
-    (an-age fits (ages-run q (suc passed) (moments + age .moment) (age .hour) left ages (later .from) (later .given-is)))
+    (an-age fits low
+    (ages-run q (suc passed) (moments + age .moment) (age .hour) (stressTo q moments hour stress age) ages (later .from)
+    (later .given-is)))
 
 -- ---- the run
 
@@ -144,29 +155,39 @@ run q report e =
 
 -- ---- what the ages' run shows
 
+-- where no moment is added g stays, whatever it is
+no-gain : (es ec : ℕ) (g : ℕ → ℕ) (moments added : ℕ) → added ≡ 0 → momentGain es ec (g (moments + added) - g moments) ≡ 0
+no-gain es ec g moments added none = rw (none, add-zero moments, sub-self (g moments), mul-zero es, zero-div ec)
+
 module _ {q : Quantities} where
-  pub ages-fall : {moments hour stress last : ℕ} {ages : List Age} {rows : List Row}
-      → AgesRun q moments hour stress ages rows last → Falls stress (stressesOf rows)
-  unfolding Falls stressesOf
-  ages-fall no-age = tt
-  ages-fall (an-age fits run) = (omega arith, ages-fall run)
+  pub ages-rise : {moments hour stress last : ℕ} {ages : List Age} {rows : List Row}
+      → AgesRun q moments hour stress ages rows last → EachRisesByGain q moments stress ages rows
+  unfolding memberOf
+  ages-rise no-age = none-rises
+  ages-rise (an-age {moments} {hour} {stress} {age} fits low run) =
+      let rises : RisesByGain q moments stress age (rowTo q moments hour stress age) = record {
+        gain-is = refl;
+        only-there = no-gain (q .Es) (q .Ec) (momentStressOf q) moments (age .moment);
+        by-just-that = omega arith;
+      } in
+      one-rises rises (ages-rise run)
 
   pub ages-close-up : {moments hour stress last : ℕ} {ages : List Age} {rows : List Row}
-      → AgesRun q moments hour stress ages rows last → stress ≡ last + lossesOfRows rows
-  unfolding lossesOfRows
+      → AgesRun q moments hour stress ages rows last → stress + gainsOfRows rows ≡ last + lossesOfRows rows
+  unfolding lossesOfRows gainsOfRows
   ages-close-up no-age = omega arith
-  ages-close-up (an-age fits run) = omega (arith, ages-close-up run)
+  ages-close-up (an-age fits low run) = omega (arith, ages-close-up run)
 
   pub ages-end : {moments hour stress last : ℕ} {ages : List Age} {rows : List Row}
       → AgesRun q moments hour stress ages rows last → getD (stress ∷ stressesOf rows) (length ages) 0 ≡ last
   unfolding stressesOf
   ages-end no-age = refl
-  ages-end (an-age fits run) = ages-end run
+  ages-end (an-age fits low run) = ages-end run
 
   pub rows-count : {moments hour stress last : ℕ} {ages : List Age} {rows : List Row}
       → AgesRun q moments hour stress ages rows last → length rows ≡ length ages
   rows-count no-age = refl
-  rows-count (an-age fits run) = ap suc (rows-count run)
+  rows-count (an-age fits low run) = ap suc (rows-count run)
 
 pub stresses-count : (rows : List Row) → length (stressesOf rows) ≡ length rows
 unfolding stressesOf

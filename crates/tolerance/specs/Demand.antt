@@ -1,13 +1,14 @@
--- The promise rests on it. Demand 3 as one statement about an accepted run: document 01, "Steps", last paragraph.
+-- The promise rests on it. Demand 3 as one statement about an accepted run: document 01, "Steps", last paragraph, and document 02, W1.
 use Prim.Native.Nat.{ℕ, zero, suc, _+_, _-_, _*_, _≤_, _<_}
 use mathlib.Core.List.{List, [], _∷_, _++_}
 use lib.ListN.{length, take, getD}
 use mathlib.Core.Path.{_≡_}
 use Rattle.fraction.specs.Fraction.{Fraction, whole, Within}
-use Rattle.fields.specs.Quantities.{Quantities}
+use Rattle.fields.specs.Quantities.{Quantities, Age}
 use Rattle.member.specs.Constants.{jacked, frictionAlong, stressAlong as ticksAlong}
 use Rattle.stages.specs.declared.before.BeforeAges.{BeforeAges}
 use Rattle.stages.specs.declared.intervals.Row.{Row}
+use Rattle.formulas.specs.Steps.{momentStress, momentGain}
 use Rattle.stages.specs.Run.{Report}
 use Rattle.tolerance.specs.Method.{Choice, Admissible, tableChoice, stressAlong, afterSlip, stepsAfterSlip, afterDeflector}
 use Rattle.ticks.specs.Ticks.{ticksPerUnit}
@@ -46,14 +47,19 @@ coreAfterDeflector q before = coreAfterSlip q before - before .deflector
 abbrev pub coreAfterEarly : Quantities → BeforeAges → ℕ
 coreAfterEarly q before = coreAfterDeflector q before - before .«early_relaxation»
 
+-- at an age it is "that after the gain"
 unfoldable pub stressesOf : List Row → List ℕ
 stressesOf [] = []
 stressesOf (row ∷ rows) = row .stress ∷ stressesOf rows
 
-abbrev pub coreStresses : Quantities → Report → List ℕ
-coreStresses q report =
+-- after each step before the ages, and after every step
+abbrev pub coreBeforeAges : Quantities → BeforeAges → List ℕ
+coreBeforeAges q before =
     each (length (q .path)) (λ j. ticksAlong q (take j (q .path)))
-    ++ (coreAfterSlip q (report .before) ∷ coreAfterEarly q (report .before) ∷ report .before .stress ∷ stressesOf (report .rows))
+    ++ (coreAfterSlip q before ∷ coreAfterEarly q before ∷ before .stress ∷ [])
+
+abbrev pub coreStresses : Quantities → Report → List ℕ
+coreStresses q report = coreBeforeAges q (report .before) ++ stressesOf (report .rows)
 
 -- what the delivery note allows a step, in ticks: 1 psi where the fractions read the core's logarithms, and 40 psi whatever admissible
 -- ones they read
@@ -74,7 +80,7 @@ pub record Close (step : ℕ) (choice : Choice) (q : Quantities) (report : Repor
       Within (whole (suc (length (q .path)) * step)) (whole (coreAfterDeflector q (report .before)))
       (afterDeflector choice q (exactAfterSlip choice q))
 
--- no stress is larger than the one before it
+-- no stress is larger than the one before it: "no step raises the stress", up to the ages
 unfoldable pub Falls : ℕ → List ℕ → Type 0
 Falls before [] = Unit {0}
 Falls before (stress ∷ stresses) = (stress ≤ before) × Falls stress stresses
@@ -84,9 +90,34 @@ abbrev pub lossesBefore : BeforeAges → ℕ
 lossesBefore before =
     before .friction + before .slip + before .deflector + before .«early_relaxation» + before .shortening
 
+abbrev pub lossesOfRow : Row → ℕ
+lossesOfRow row = row .creep + row .shrinkage + row .relaxation
+
 unfoldable pub lossesOfRows : List Row → ℕ
 lossesOfRows [] = 0
-lossesOfRows (row ∷ rows) = row .creep + row .shrinkage + row .relaxation + lossesOfRows rows
+lossesOfRows (row ∷ rows) = lossesOfRow row + lossesOfRows rows
+
+unfoldable pub gainsOfRows : List Row → ℕ
+gainsOfRows [] = 0
+gainsOfRows (row ∷ rows) = row .gain + gainsOfRows rows
+
+-- "g = M·e/I", in ticks
+abbrev pub momentStressOf : Quantities → ℕ → ℕ
+momentStressOf q moments = momentStress moments (q .eccentricity) (q .inertia)
+
+-- document 02, W1: the stress "rises only there", at an age with an added moment, "and by just that gain", ⌊Es·Δg/Ec⌋: so at an age,
+-- from the moments and the stress before it
+pub record RisesByGain (q : Quantities) (moments stress : ℕ) (age : Age) (row : Row) : Type 0 where
+  pub gain-is : row .gain ≡ momentGain (q .Es) (q .Ec) (momentStressOf q (moments + age .moment) - momentStressOf q moments)
+  pub only-there : age .moment ≡ 0 → row .gain ≡ 0
+  pub by-just-that : stress + row .gain ≡ row .stress + lossesOfRow row
+
+-- and so at each age in turn
+pub data EachRisesByGain (q : Quantities) : (moments stress : ℕ) → List Age → List Row → Type 0 where
+  no-age : {moments stress : ℕ} → EachRisesByGain q moments stress [] []
+  an-age : {moments stress : ℕ} {age : Age} {row : Row} {ages : List Age} {rows : List Row} → RisesByGain q moments stress age row
+      → EachRisesByGain q (moments + age .moment) (row .stress) ages rows
+      → EachRisesByGain q moments stress (age ∷ ages) (row ∷ rows)
 
 -- "the core's after a step is the one these lines give in ticks, and where reply or report has it, the number there". By the sums none
 -- of the differences in `coreStresses` is cut at 0, and by the count every age has its row.
@@ -102,6 +133,8 @@ pub record Linked (q : Quantities) (report : Report) : Type 0 where
 pub record Demand3 (q : Quantities) (report : Report) : Type 0 where
   pub narrow : Close narrowStep tableChoice q report
   pub wide : (choice : Choice) → Admissible choice → Close wideStep choice q report
-  pub falls : Falls (jacked q) (coreStresses q report)
-  pub closes : jacked q ≡ report .last + lossesBefore (report .before) + lossesOfRows (report .rows)
+  pub falls : Falls (jacked q) (coreBeforeAges q (report .before))
+  pub rises : EachRisesByGain q (q .ownWeightMoment) (report .before .stress) (q .ages) (report .rows)
+  pub closes :
+      jacked q + gainsOfRows (report .rows) ≡ report .last + lossesBefore (report .before) + lossesOfRows (report .rows)
   pub linked : Linked q report

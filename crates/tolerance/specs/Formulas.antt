@@ -112,3 +112,7 @@ creepLoss wholeCreep share c = wholeCreep ⊗ share ⊗ (1 ÷ T) ⊗ c ⊗ (1 ÷
 -- "shrinkage S·share/T"
 abbrev pub shrinkageLoss : Fraction → Fraction → Fraction
 shrinkageLoss wholeShrinkage share = wholeShrinkage ⊗ share ⊗ (1 ÷ T)
+
+-- document 02, W1: "Es times the rise of g over Ec"
+abbrev pub momentGain : ℕ → ℕ → Fraction → Fraction
+momentGain es ec rise = whole es ⊗ rise ⊗ (1 ÷ ec)

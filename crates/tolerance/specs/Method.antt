@@ -1,5 +1,5 @@
--- The promise rests on it. The method in fractions: document 01, "Steps", "these lines without rounding", beside `Run` of `stages`. Each
--- step after the path is a map of stresses.
+-- The promise rests on it. The method in fractions: document 01, "Steps", "these lines without rounding", and the gain of document 02,
+-- W1, beside `Run` of `stages`. Each step after the path is a map of stresses.
 use Prim.Native.Nat.{ℕ, suc, _≤_, _+_, _*_}
 use mathlib.Core.List.{List, [], _∷_}
 use Rattle.fraction.specs.Fraction.{Fraction, whole, _≼_, _⊕_, _⊖_}
@@ -13,6 +13,7 @@ use Rattle.member.specs.Member.{kindOf, steelOf, hoursOf}
 use Rattle.member.specs.Constants.{jacked}
 use Rattle.tolerance.specs.Formulas.{pathFriction, kappa, wholeCreep, wholeShrinkage, shareOf, frictionLoss, slipLoss}
 use Rattle.tolerance.specs.Formulas.{relaxationLoss, momentStress, concreteStress, shorteningLoss, creepLoss, shrinkageLoss}
+use Rattle.tolerance.specs.Formulas.{momentGain}
 
 -- what the method may choose, once for the whole run
 pub record Choice : Type 0 where
@@ -72,13 +73,14 @@ module _ (choice : Choice) (q : Quantities) where
   afterShortening stress =
       stress ⊖ shorteningLoss (q .Es) (q .Eci) (kappa q) (concreteStress stress (kappa q) (transferEnd .g))
 
-  -- 5. an age, from the stress and the moments at the start of its interval
+  -- 5. an age: the losses from the stress and the moments at the start of its interval, then the gain from the moment at its end
   abbrev pub afterAge : End → End → Fraction → Fraction
   afterAge start end stress =
       stress
       ⊖ (creepLoss (wholeCreep q) (end .creep ⊖ start .creep) (concreteStress stress (kappa q) (start .g))
       ⊕ shrinkageLoss (wholeShrinkage q) (end .shrinkage ⊖ start .shrinkage)
       ⊕ relaxationLoss (steelOf (q .steel)) (q .ultimateStrength) stress (end .logarithm ⊖ start .logarithm))
+      ⊕ momentGain (q .Es) (q .Ec) (end .g ⊖ start .g)
 
   -- the steps of ages, the first of whose intervals starts under these moments at this hour
   unfoldable pub ageSteps : ℕ → ℕ → List Age → List (Fraction → Fraction)

@@ -40,7 +40,7 @@ pub const TICKS_PER_PSI: f64 = 1024.0;
 /// Bytes of a number; the numbers of a reply, and of an age in report and scratch.
 const BYTES_OF_NUMBER: usize = 8;
 const NUMBERS_OF_REPLY: usize = 8;
-const NUMBERS_OF_AGE: usize = 4;
+const NUMBERS_OF_AGE: usize = 5;
 
 /// The most ages that a member has, the bytes of an age in report and scratch, and those of a reply.
 pub const MOST_AGES: usize = 64;
@@ -96,12 +96,13 @@ impl fmt::Display for Refusal {
             (5, _) => write!(f, "the section is too small for its steel"),
             (6, _) => write!(f, "the section creeps more than the method takes"),
             (7, 0) => write!(f, "less than 1,000 psi are left before the ages"),
-            (7, _) => write!(f, "less than 1,000 psi are left after age {place}"),
+            (7, _) => write!(f, "less than 1,000 psi are left after the losses of age {place}"),
             (8, 0) => write!(f, "the list has a wrong length"),
             (8, _) => write!(f, "line {place} of the card is wrong or missing"),
             (9, _) => write!(f, "the double in field {place} cannot be read"),
             (10, 1) => write!(f, "the report has no room"),
             (10, 2) => write!(f, "the scratch has no room"),
+            (11, _) => write!(f, "the gain of age {place} lifts the stress above 0.80 of the ultimate strength"),
             (number, _) => write!(f, "refusal {number}, place {place}"),
         }
     }
@@ -109,13 +110,14 @@ impl fmt::Display for Refusal {
 
 impl std::error::Error for Refusal {}
 
-/// The losses of an age and the stress after it, in psi.
+/// The losses of an age, the stress after them and after the gain, and the gain from the moment added then, in psi.
 #[derive(Debug, Clone, Copy, PartialEq)]
 pub struct Row {
     pub creep: f64,
     pub shrinkage: f64,
     pub relaxation: f64,
     pub stress: f64,
+    pub gain: f64,
 }
 
 /// An accepted run, in psi.
@@ -153,6 +155,7 @@ fn run(call: impl Fn(&mut [u8], &mut [u8], &mut [u8]) -> u64, ages: impl Fn() ->
         shrinkage: psi(number(row, 1)),
         relaxation: psi(number(row, 2)),
         stress: psi(number(row, 3)),
+        gain: psi(number(row, 4)),
     });
     Ok(Run {
         friction: psi(number(&reply, 1)),

@@ -16,6 +16,9 @@ const BYTES_OF_NUMBER: usize = 8;
 /// An answer is accepted, 0, or one of the refusals.
 const ANSWERS: usize = refused::LAST as usize + 1;
 
+/// Each answer comes up at least so often.
+const LEAST_COUNT: usize = 50;
+
 /// Numbers that look random, from a fixed seed.
 struct Random(u64);
 
@@ -54,6 +57,19 @@ fn edges() -> Vec<(Field, u64, u64)> {
     [&RANGES[..], &codes, &[(Transfer, LEAST_TRANSFER, MOST_TRANSFER)]].concat()
 }
 
+/// Fields of the section. At times it is slender: there the moments of ages lift the stress as far as 0.80 F and beyond.
+fn section(r: &mut Random, area: u64) -> [(Field, u64); 4] {
+    if r.one_in(4) {
+        let inertia_bits = r.between(11, 24);
+        let inertia = r.between(1 << 10, 1 << inertia_bits);
+        [(Inertia, inertia), (Eccentricity, r.below(4096)), (SteelArea, r.between(1, 4)), (OwnWeightMoment, r.below(1 << 20))]
+    } else {
+        let inertia = r.between(1 << 20, 1 << 33);
+        let steel_area = r.between(1, area / 100);
+        [(Inertia, inertia), (Eccentricity, r.below(20_000)), (SteelArea, steel_area), (OwnWeightMoment, r.below(1 << 34))]
+    }
+}
+
 /// The head of a member that is often accepted.
 fn head(r: &mut Random) -> Vec<u64> {
     let kind = r.between(PRETENSIONED, POST_TENSIONED);
@@ -62,13 +78,15 @@ fn head(r: &mut Random) -> Vec<u64> {
     let latest_curing = if moist { MOST_CURING_IF_MOIST } else { MOST_TRANSFER };
     let transfer = r.between(earliest, if kind == PRETENSIONED { latest_curing } else { MOST_TRANSFER });
     let strength = r.between(100_000, MOST_STRENGTH);
+    // In hundredths of it; at times so few that 7 comes at an age, also where a gain would follow.
+    let jacked = if r.one_in(8) { r.between(2, 30) } else { r.between(30, 80) };
     let area = r.between(1 << 14, 1 << 22);
     let mut fields = vec![0; HEAD_FIELDS];
     let mut set = |field: Field, number: u64| fields[field.at()] = number;
     set(Kind, kind);
     set(Steel, r.between(FIRST_CODE, LAST_CODE));
     set(UltimateStrength, strength);
-    set(JackingStress, strength * r.between(30, 80) / 100);
+    set(JackingStress, strength * jacked / 100);
     set(DeflectorLoss, if kind == PRETENSIONED && r.one_in(3) { r.below(5000) } else { 0 });
     set(Slip, r.pick(&[0, 0, 64, 256, 384, 1024]));
     set(Length, r.between(20_480, 2_097_152));
@@ -79,10 +97,7 @@ fn head(r: &mut Random) -> Vec<u64> {
     set(Ec, r.between(2_000_000, 8_000_000));
     set(VolumeToSurface, r.between(1024, 10_240));
     set(Area, area);
-    set(Inertia, r.between(1 << 20, 1 << 33));
-    set(Eccentricity, r.below(20_000));
-    set(SteelArea, r.between(1, area / 100));
-    set(OwnWeightMoment, r.below(1 << 34));
+    section(r, area).into_iter().for_each(|(field, number)| set(field, number));
     set(EndOfCuring, if kind == PRETENSIONED { transfer } else { r.between(0, transfer.min(MOST_CURING_IF_MOIST)) });
     set(Transfer, transfer);
     set(Wobble, r.below(400));
@@ -106,13 +121,14 @@ fn member(r: &mut Random) -> Vec<u64> {
     }
     let mut hour = f[Transfer.at()];
     let to_the_end = r.one_in(2);
+    let heaviest = 1 << r.between(16, 38);
     for later in (0..ages).rev() {
         let left = LIFE - hour - (later + 1);
         hour += 1 + r.below((left / (later + 1)).max(1));
         if to_the_end && later == 0 {
             hour = LIFE;
         }
-        f.extend(age(hour, if r.one_in(3) { r.below(1 << 32) } else { 0 }));
+        f.extend(age(hour, if r.one_in(3) { r.below(heaviest) } else { 0 }));
     }
     f
 }
@@ -284,16 +300,26 @@ fn copy(b: &Buffers) -> Buffers {
     Buffers { report: b.report.clone(), scratch: b.scratch.clone(), reply: b.reply.clone() }
 }
 
-/// How many cases gave each refusal.
-fn tally(counts: &mut [usize; ANSWERS], due: &Result<Run, Refusal>) {
-    counts[due.as_ref().err().map_or(0, |&(number, _)| number as usize)] += 1;
+/// How many cases gave each answer, and how many accepted ones have a gain.
+#[derive(Default)]
+struct Tally {
+    answers: [usize; ANSWERS],
+    gains: usize,
 }
 
-/// The tests would show little if a refusal never came up, but for `unseen`, which cannot.
-fn seen(counts: [usize; ANSWERS], unseen: Option<u64>) {
-    println!("accepted {}, refused {:?}", counts[0], &counts[1..]);
-    for (number, count) in counts.iter().enumerate().filter(|&(number, _)| Some(number as u64) != unseen) {
-        assert!(*count > 20, "refusal {number} came up {count} times");
+impl Tally {
+    fn count(&mut self, due: &Result<Run, Refusal>) {
+        self.answers[due.as_ref().err().map_or(0, |&(number, _)| number as usize)] += 1;
+        self.gains += usize::from(due.as_ref().is_ok_and(Run::gains));
+    }
+
+    /// The tests would show little if an answer or a gain came up hardly ever, but for the refusal `unseen`, which cannot.
+    fn hold(&self, unseen: Option<u64>) {
+        println!("accepted {}, with a gain {}, refused {:?}", self.answers[0], self.gains, &self.answers[1..]);
+        for (number, count) in self.answers.iter().enumerate().filter(|&(number, _)| Some(number as u64) != unseen) {
+            assert!(*count >= LEAST_COUNT, "answer {number} came up {count} times");
+        }
+        assert!(self.gains >= LEAST_COUNT, "a gain came up {} times", self.gains);
     }
 }
 
@@ -307,7 +333,7 @@ fn run_cases(
     let paper = Paper::new();
     let edges = edges();
     let mut r = Random(seed);
-    let mut counts = [0; ANSWERS];
+    let mut tally = Tally::default();
     for case in 0..CASES {
         let mut f = member(&mut r);
         disturb(&mut r, &edges, &mut f);
@@ -318,10 +344,10 @@ fn run_cases(
         let due = reading.and_then(|member| {
             paper.run(&member, was.report.len() / BYTES_OF_NUMBER, was.scratch.len() / BYTES_OF_NUMBER)
         });
-        tally(&mut counts, &due);
+        tally.count(&due);
         compare(&format!("case {case}"), returned, &was, &now, due);
     }
-    seen(counts, unseen);
+    tally.hold(unseen);
 }
 
 #[test]

@@ -24,6 +24,7 @@ made : (q : Quantities) {hours : MemberHours} {steel : Steel} {friction kappa cr
       length = q .tendonLength;
       es = q .Es;
       eci = q .Eci;
+      ec = q .Ec;
       inertia = q .inertia;
       eccentricity = q .eccentricity;
       «own_weight_moment» = q .ownWeightMoment;
@@ -75,12 +76,15 @@ element-copy-out-t38 c = search needs
 element-copy-out-t41 : tie.Need-element-copy-out-t41
 element-copy-out-t41 c = search needs
 
+element-copy-out-t44 : tie.Need-element-copy-out-t44
+element-copy-out-t44 c = search needs
+
 shrinkage-of-requires : tie.Need-shrinkage-of-requires
 shrinkage-of-requires c κs = search needs
 
 returns : tie.Need-returns
 returns c =
-    let read = c .before .before .before .before .before .before .before .before .before .before .before in
+    let read = c .before .before .before .before .before .before .before .before .before .before .before .before in
     let start = read .before .before .before in
     let fields = start .args .fields .now in
     let segments = start .args .segments in
@@ -106,5 +110,6 @@ member-of-spec =
     element-copy-out-t35
     element-copy-out-t38
     element-copy-out-t41
+    element-copy-out-t44
     shrinkage-of-requires
     returns)

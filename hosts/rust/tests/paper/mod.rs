@@ -1,5 +1,5 @@
-//! Document 01's method, written from the paper for the tests alone. It shares nothing with the core: it reads with `u128`s,
-//! finds its thresholds with numbers of any size, and knows nothing of the core's order of work beyond the paper's table.
+//! The method of documents 01 and 02, written from the papers for the tests alone. It shares nothing with the core: it reads with
+//! `u128`s, finds its thresholds with numbers of any size, and knows nothing of the core's order of work beyond the papers' checks.
 
 #![allow(dead_code)]
 
@@ -187,7 +187,8 @@ pub mod refused {
     pub const SHAPE: u64 = 8;
     pub const DOUBLE: u64 = 9;
     pub const BUFFER: u64 = 10;
-    pub const LAST: u64 = BUFFER;
+    pub const OVERSTRESS: u64 = 11;
+    pub const LAST: u64 = OVERSTRESS;
 }
 
 /// A card or a list as it is read: all its fields, by their numbers less 1.
@@ -222,10 +223,11 @@ impl Member {
 
 pub type Reading = Result<Member, Refusal>;
 
-/// The losses before the ages and the stress after them; and creep, shrinkage, relaxation and stress of an age.
+/// The losses before the ages and the stress after them; and creep, shrinkage, relaxation, stress and gain of an age.
 pub const BEFORE_NUMBERS: usize = 6;
-pub const ROW_NUMBERS: usize = 4;
-pub const ROW_STRESS: usize = 3;
+pub const ROW_NUMBERS: usize = 5;
+const ROW_STRESS: usize = 3;
+const ROW_GAIN: usize = 4;
 
 /// Numbers of scratch that an age needs.
 pub const SCRATCH_NUMBERS_OF_AGE: usize = ROW_NUMBERS;
@@ -241,6 +243,11 @@ impl Run {
     /// The last stress in psi.
     pub fn last_stress(&self) -> f64 {
         self.rows.last().expect("an age")[ROW_STRESS] as f64 / TICKS as f64
+    }
+
+    /// Whether a moment lifts the stress at some age.
+    pub fn gains(&self) -> bool {
+        self.rows.iter().any(|row| row[ROW_GAIN] > 0)
     }
 }
 
@@ -439,9 +446,11 @@ impl Paper {
             check(listed, refused::CODE, number_in_segment(i, OfSegment::Kind))?;
         }
 
+        // "at most 0.80 F" of the jacking stress, and in W1 of the stress after a gain.
+        let permitted = |stress: u128| 10 * stress <= 8 * f(UltimateStrength) * TICKS;
         for (field, least, most) in RANGES {
             let within = match field {
-                JackingStress => 10 * f(JackingStress) <= 8 * f(UltimateStrength),
+                JackingStress => permitted(f(JackingStress) * TICKS),
                 DeflectorLoss => kind == PRETENSIONED || f(DeflectorLoss) == 0,
                 _ => true,
             };
@@ -521,6 +530,10 @@ impl Paper {
             let left = stress.saturating_sub(loss);
             check(left >= LEAST_STRESS, refused::STRESS, place).map(|()| left)
         };
+        let lift = |stress: u128, gain: u128, place: usize| {
+            let lifted = stress + gain;
+            check(permitted(lifted), refused::OVERSTRESS, place).map(|()| lifted)
+        };
         let (d, y) = match steel {
             STRESS_RELIEVED => (2560, 85 * f(UltimateStrength) * TICKS / 100),
             _ => (11_520, 90 * f(UltimateStrength) * TICKS / 100),
@@ -531,9 +544,8 @@ impl Paper {
         };
         let tensioning = if kind == PRETENSIONED { 0 } else { transfer };
         let log = |hour: u128| self.logarithm((hour - tensioning).max(1));
-        let c = |stress: u128, moments: u128| {
-            (stress * kappa >> 32).saturating_sub(moments * eccentricity / inertia)
-        };
+        let g = |moments: u128| moments * eccentricity / inertia;
+        let c = |stress: u128, moments: u128| (stress * kappa >> 32).saturating_sub(g(moments));
 
         let jacked = f(JackingStress) * TICKS;
         let friction = jacked * x / T;
@@ -559,9 +571,11 @@ impl Paper {
             let shrinks = shrinkage * (shrinkage_share(hour) - shrinkage_share(start)) / T;
             let relaxes = relax(stress, log(hour) - log(start));
             stress = lose(stress, creep + shrinks + relaxes, i + 1)?;
-            rows.push([creep, shrinks, relaxes, stress].map(|v| v as u64));
-            start = hour;
-            moments += member.age(i, OfAge::Moment);
+            let moments_after = moments + member.age(i, OfAge::Moment);
+            let gain = es * (g(moments_after) - g(moments)) / ec;
+            stress = lift(stress, gain, i + 1)?;
+            rows.push([creep, shrinks, relaxes, stress, gain].map(|v| v as u64));
+            (start, moments) = (hour, moments_after);
         }
         Ok(Run { before, rows })
     }

@@ -3,11 +3,12 @@
 use Prim.Native.Nat.{_≤_, _-_, _*_}
 use mathlib.Core.Path.{_≡_}
 use borrow.Author.Needs.{needs}
+use Rattle.fields.specs.Limits.{perRow}
 use Rattle.cases.proofs.answers.print_rows.Statement.{statement}
 use Rattle.cases.proofs.answers.print_rows.Tie as tie
 
 abbrev Inv-loop : tie.InvT-loop
-Inv-loop report ages row₀ age₀ row age = (age ≤ ages) × (row ≡ 4 * age)
+Inv-loop report ages row₀ age₀ row age = (age ≤ ages) × (row ≡ perRow * age)
 
 abbrev μ-loop : tie.MeasureT-loop
 μ-loop report ages row₀ age₀ row age = ages - age
@@ -51,6 +52,15 @@ mul-t25 c = search needs
 element-copy-out-t28 : tie.Need-element-copy-out-t28 Inv-loop μ-loop
 element-copy-out-t28 c = search needs
 
+add-t29 : tie.Need-add-t29 Inv-loop μ-loop
+add-t29 c = search needs
+
+mul-t30 : tie.Need-mul-t30 Inv-loop μ-loop
+mul-t30 c = search needs
+
+element-copy-out-t33 : tie.Need-element-copy-out-t33 Inv-loop μ-loop
+element-copy-out-t33 c = search needs
+
 slice-aggregate-print-numbers : tie.Need-slice-aggregate-print-numbers Inv-loop μ-loop
 slice-aggregate-print-numbers c = search needs
 
@@ -91,6 +101,9 @@ print-rows-spec =
     add-t24
     mul-t25
     element-copy-out-t28
+    add-t29
+    mul-t30
+    element-copy-out-t33
     slice-aggregate-print-numbers
     print-numbers-requires
     add-row

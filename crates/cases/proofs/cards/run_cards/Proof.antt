@@ -1,14 +1,15 @@
 -- `cases::cards::run_cards` is safe and ends: the cards that are left fall with each turn. Assumes nothing.
 use Prim.Native.Nat.{_≤_, _-_}
 use native.Mathlib.Omega.{arith}
+use Rattle.cases.specs.Sizes.{mostCards}
 use Rattle.cases.proofs.cards.run_cards.Statement.{statement}
 use Rattle.cases.proofs.cards.run_cards.Tie as tie
 
 abbrev Inv-loop : tie.InvT-loop
-Inv-loop number₀ number = number ≤ 383
+Inv-loop number₀ number = number ≤ mostCards
 
 abbrev μ-loop : tie.MeasureT-loop
-μ-loop number₀ number = 383 - number
+μ-loop number₀ number = mostCards - number
 
 loop-holds : tie.Need-loop-holds Inv-loop μ-loop
 loop-holds c = omega arith

@@ -95,7 +95,8 @@ pass-requires c κs =
     record {
       member = start .pre .ages-fit .bounded;
       stress-fits = turn .before .loop .inv .stress-fits;
-      end-fits = rw (c .end-at .ensures) (end-bounded (start .args .m) _ _);
+      end-fits =
+          rw (c .end-at .ensures) (end-bounded (start .args .m) _ _ (start .pre .ages-fit .bounded) (moments-within (c .before)));
     }
 
 enum-known-row : tie.Need-enum-known-row Inv-loop μ-loop
@@ -152,6 +153,7 @@ loop-again c =
     let turn = turn-of (passing .before .before) in
     turns (turn .before .loop .inv) (turn .loop-test .taken) _ (passing .before .end-at .ensures)
     _ (passing .pass .ensures) _ (told .before .row .given .1) _ (written .write-row .ensures)
+    (start-of turn .pre .ages-fit .bounded)
 
 same-length-2 : tie.Need-same-length-2 Inv-loop μ-loop
 same-length-2 c = c .before .loop .inv .kept

@@ -1,9 +1,9 @@
--- Four numbers over the first four of a part. Assumes nothing.
+-- Five numbers over the first five of a part. Assumes nothing.
 use borrow.Author.Needs.{needs}
 use denote.Ref.{now}
 use lib.ListN.{length-set}
 use native.Mathlib.Omega.{arith}
-use Rattle.entries.proofs.BufferRows.{four}
+use Rattle.entries.proofs.BufferRows.{row-over}
 use Rattle.entries.proofs.rows.write_row.Statement.{statement}
 use Rattle.entries.proofs.rows.write_row.Tie as tie
 
@@ -17,7 +17,10 @@ slice-write-part-3 : tie.Need-slice-write-part-3
 slice-write-part-3 c = simp length-set (omega arith)
 
 slice-write-part-4 : tie.Need-slice-write-part-4
-slice-write-part-4 c = search needs
+slice-write-part-4 c = simp length-set (omega arith)
+
+slice-write-part-5 : tie.Need-slice-write-part-5
+slice-write-part-5 c = search needs
 
 same-length : tie.Need-same-length
 same-length c = search needs
@@ -25,7 +28,7 @@ same-length c = search needs
 returns : tie.Need-returns
 returns c =
     let row = c .args .row in
-    four (now (c .args .part)) (row .creep) (row .shrinkage) (row .relaxation) (row .stress) (c .pre)
+    row-over (now (c .args .part)) (row .creep) (row .shrinkage) (row .relaxation) (row .stress) (row .gain) (c .pre)
 
 pub write-row-spec : {M : Type 1} → statement M
 write-row-spec =
@@ -35,5 +38,6 @@ write-row-spec =
     slice-write-part-2
     slice-write-part-3
     slice-write-part-4
+    slice-write-part-5
     same-length
     returns)

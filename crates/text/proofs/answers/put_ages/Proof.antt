@@ -74,6 +74,15 @@ mul-t38 c = search needs
 element-copy-out-t41 : tie.Need-element-copy-out-t41 Inv-loop μ-loop
 element-copy-out-t41 c = search needs
 
+add-t42 : tie.Need-add-t42 Inv-loop μ-loop
+add-t42 c = search needs
+
+mul-t43 : tie.Need-mul-t43 Inv-loop μ-loop
+mul-t43 c = search needs
+
+element-copy-out-t46 : tie.Need-element-copy-out-t46 Inv-loop μ-loop
+element-copy-out-t46 c = search needs
+
 slice-aggregate-put-line : tie.Need-slice-aggregate-put-line Inv-loop μ-loop
 slice-aggregate-put-line c = search needs
 
@@ -94,7 +103,7 @@ loop-less c = search needs
 
 loop-again : tie.Need-loop-again Inv-loop μ-loop
 loop-again c =
-    let turn = c .before .before .before .before .before .before .before .before .before .before .before in
+    let turn = c .before .before .before .before .before .before .before .before .before .before .before .before in
     next-lined (turn .loop .inv) (search needs) (turn .before .before .pre .room) _ _ (c .before .before .put-line .ensures)
 
 same-length : tie.Need-same-length Inv-loop μ-loop
@@ -129,6 +138,9 @@ put-ages-spec =
     add-t37
     mul-t38
     element-copy-out-t41
+    add-t42
+    mul-t43
+    element-copy-out-t46
     slice-aggregate-put-line
     put-line-requires
     add-at
