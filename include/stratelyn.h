@@ -54,7 +54,7 @@ enum stratelyn_refusal {
   STRATELYN_DUCT = 4,       /* place 1: a pretensioned member with segments; 2: more friction than the method takes */
   STRATELYN_SECTION = 5,    /* too much steel for the section; place 14 */
   STRATELYN_CREEP = 6,      /* too much creep for the section; place 17 */
-  STRATELYN_STRESS = 7,     /* under 1,000 psi after a loss; place 0 before the ages, else the age's number */
+  STRATELYN_STRESS = 7,     /* under 1,000 psi after a loss, before a gain; place 0 before the ages, else the age's number */
   STRATELYN_SHAPE = 8,      /* a wrong or missing line of a card, the place; a wrong length of a list, place 0 */
   STRATELYN_DOUBLE = 9,     /* a double that is not finite, negative, 2^31 or more, or not whole; place: field */
   STRATELYN_BUFFER = 10,    /* place 1: the report is too short; 2: the scratch; or the reply is under 64 bytes */

@@ -1,4 +1,4 @@
-// The cards: files 0000.card, 0001.card and so on in the folder cards. Those from 0240 on stand at the edges of document 01's
+// The cards: files 0000.card, 0001.card and so on in the folder cards. Those from 0240 on stand at the edges of the papers'
 // ranges and rules, and edges.txt says which.
 use libc::STDOUT_FILENO;
 use text::MOST_READ_BYTES;

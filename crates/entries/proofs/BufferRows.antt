@@ -12,23 +12,28 @@ use Rattle.fields.specs.Outcomes.{over}
 use Rattle.fields.proofs.Buffers.{length-over, tail, written-behind}
 use Rattle.entries.specs.Conditions.{RoomForRows}
 
+-- a part with room for a row begins with five numbers
+by-front : (P : List ℕ → Type 0) → ((v w x y z : ℕ) (rest : List ℕ) → P (v ∷ w ∷ x ∷ y ∷ z ∷ rest)) → (part : List ℕ)
+    → perRow ≤ length part → P part
+by-front P holds [] h = absurd (omega arith)
+by-front P holds (v ∷ []) h = absurd (omega arith)
+by-front P holds (v ∷ w ∷ []) h = absurd (omega arith)
+by-front P holds (v ∷ w ∷ x ∷ []) h = absurd (omega arith)
+by-front P holds (v ∷ w ∷ x ∷ y ∷ []) h = absurd (omega arith)
+by-front P holds (v ∷ w ∷ x ∷ y ∷ z ∷ rest) h = holds v w x y z rest
+
 pub row-over : (part : List ℕ) (a b c d e : ℕ) → perRow ≤ length part
     → set (set (set (set (set part 0 a) 1 b) 2 c) 3 d) 4 e ≡ over (a ∷ b ∷ c ∷ d ∷ e ∷ []) part
-row-over [] a b c d e h = absurd (omega arith)
-row-over (v ∷ []) a b c d e h = absurd (omega arith)
-row-over (v ∷ w ∷ []) a b c d e h = absurd (omega arith)
-row-over (v ∷ w ∷ x ∷ []) a b c d e h = absurd (omega arith)
-row-over (v ∷ w ∷ x ∷ y ∷ []) a b c d e h = absurd (omega arith)
-row-over (v ∷ w ∷ x ∷ y ∷ z ∷ part) a b c d e h = refl
+row-over part a b c d e =
+    by-front (λ part. set (set (set (set (set part 0 a) 1 b) 2 c) 3 d) 4 e ≡ over (a ∷ b ∷ c ∷ d ∷ e ∷ []) part)
+    (λ v w x y z rest. refl) part
 
 pub row-at-front : (part : List ℕ) → perRow ≤ length part
     → getD part 0 0 ∷ getD part 1 0 ∷ getD part 2 0 ∷ getD part 3 0 ∷ getD part 4 0 ∷ [] ≡ take perRow part
-row-at-front [] h = absurd (omega arith)
-row-at-front (v ∷ []) h = absurd (omega arith)
-row-at-front (v ∷ w ∷ []) h = absurd (omega arith)
-row-at-front (v ∷ w ∷ x ∷ []) h = absurd (omega arith)
-row-at-front (v ∷ w ∷ x ∷ y ∷ []) h = absurd (omega arith)
-row-at-front (v ∷ w ∷ x ∷ y ∷ z ∷ part) h = refl
+row-at-front =
+    by-front
+    (λ part. getD part 0 0 ∷ getD part 1 0 ∷ getD part 2 0 ∷ getD part 3 0 ∷ getD part 4 0 ∷ [] ≡ take perRow part)
+    (λ v w x y z rest. refl)
 
 -- room for a row behind some place is room in the part from that place on
 pub part-room : (buffer : List ℕ) (at : ℕ) → at + perRow ≤ length buffer

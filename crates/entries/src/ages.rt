@@ -1,4 +1,4 @@
-// The losses of the ages, interval by interval, and the row of each.
+// The losses and the gains of the ages, interval by interval, and the row of each.
 ghost use Rattle.fields.specs.Quantities.{agesFrom};
 ghost use Rattle.stages.specs.Run.{transferEnd, agedFrom};
 ghost use Rattle.entries.specs.RunAges.{RanAges};
@@ -15,7 +15,7 @@ use stages::intervals;
 use stages::intervals::Passed;
 
 // The ages with which the fields begin, in turn from the stress at transfer on, each with its row in the scratch: the last stress, or
-// the refusal of the first age that leaves too little. An age's moment counts from its own end on.
+// the refusal of the first age whose losses leave too little or whose gain lifts too high. An age's moment counts from its own end on.
 pub(crate) fn run_ages(
     m: Member,
     thresholds: &[u32; ENTRIES],

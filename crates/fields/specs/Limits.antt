@@ -1,4 +1,4 @@
--- The promise rests on it. The limits of document 01: of the card's fields, of the hours, and of the table of refusals.
+-- The promise rests on it. The limits of documents 01 and 02: of the card's fields, of the hours, and of the refusals.
 use Prim.Native.Nat.{ℕ, _*_, _/_, _^_}
 use mathlib.Core.Bool.{Bool, _||_}
 use mathlib.Core.List.{[]}

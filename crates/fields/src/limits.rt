@@ -1,4 +1,4 @@
-// The limits of document 01: of the ranges in "The card", line by line, of the hours, and of the rows of its table of refusals.
+// The limits of documents 01 and 02: of the ranges in "The card", line by line, of the hours, and of the refusals.
 
 use crate::layout::HEAD_FIELDS;
 use crate::layout::PER_AGE;

@@ -1,15 +1,15 @@
 -- How large a loss or a gain can be, for callers that add them up: each product is bounded, and a division does not raise it.
 -- Assumes nothing.
-use mathlib.Core.Path.{_≡_, ap}
-use Prim.Native.Nat.{ℕ, _+_, _*_, _/_, _%_, _^_, _≤_, _<_}
-use native.Mathlib.Nat.{div-le-self, div-le-of-le-mul, le-trans, mul-le-mul-left, mod-lt, div-add-mod', add-mul-div-right}
+use Prim.Native.Nat.{ℕ, _*_, _/_, _^_, _≤_, _<_}
+use native.Mathlib.Nat.{div-le-self, div-le-of-le-mul, le-trans, mul-le-mul-left}
 use native.Mathlib.Omega.{arith}
 use Rattle.ticks.specs.Ticks.{T}
 use Rattle.coefficient.specs.declared.codes.Steel.{Steel}
 use Rattle.coefficient.specs.declared.codes.Steel.the-variants.{StressRelieved, LowRelaxation}
 use Rattle.formulas.specs.Steps.{yield, relaxationDivisor, relaxationFactor, relaxationLoss}
 use Rattle.formulas.specs.Steps.{momentStress, concreteStress, creepLoss, shrinkageLoss, momentGain}
-use Rattle.formulas.specs.Conditions.{stressLimit, leastStrength, logarithmLimit, mostMomentStress, creepLimit, gainLimit}
+use Rattle.formulas.specs.Conditions.{stressLimit, leastStrength, logarithmLimit, leastInertia, mostMomentStress, creepLimit}
+use Rattle.formulas.specs.Conditions.{mostGain}
 use Rattle.formulas.specs.Conditions.{RelaxationFits, MomentsFit, ConcreteFits, CreepFits, ShrinkageFits, GainFits}
 use Rattle.formulas.proofs.Products.{product}
 
@@ -62,31 +62,13 @@ creep-most {wholeCreep} {share} fits =
 pub shrinkage-most : {wholeShrinkage share : ℕ} → ShrinkageFits wholeShrinkage share → shrinkageLoss wholeShrinkage share ≤ 2 ^ 50
 shrinkage-most fits = le-trans (div-le-self _ T) (product 26 24 (omega arith) (fits .share-fits))
 
-pub moment-stress-fits : {moments eccentricity inertia : ℕ} → MomentsFit moments eccentricity inertia
+pub moment-stress-most : {moments eccentricity inertia : ℕ} → MomentsFit moments eccentricity inertia → leastInertia ≤ inertia
     → momentStress moments eccentricity inertia ≤ mostMomentStress
-moment-stress-fits {moments} {eccentricity} {inertia} fits =
-    let whole : moments * eccentricity ≤ 2 ^ 58 = product 41 17 (omega arith) (omega arith) in
-    div-le-of-le-mul inertia (omega (arith, mul-le-mul-left mostMomentStress (fits .inertia-least)))
+moment-stress-most {inertia = inertia} fits least =
+    div-le-of-le-mul inertia
+    (le-trans (product 41 17 (omega arith) (omega arith)) (omega (arith, mul-le-mul-left mostMomentStress least)))
 
--- ---- the gain, without the product Es·rise
-
--- the whole Ec in a rise divide exactly, so that only what is left of the rise is rounded
-pub gain-in-parts : (es ec rise : ℕ) → 0 < ec → es * (rise / ec) + es * (rise % ec) / ec ≡ momentGain es ec rise
-gain-in-parts es ec rise h =
-    let whole : es * (rise % ec) + es * (rise / ec) * ec ≡ es * rise
-    = omega (arith, ap (λ (n : ℕ). es * n) (div-add-mod' rise ec)) in
-    omega (arith, ap (λ (n : ℕ). n / ec) whole, add-mul-div-right (es * (rise % ec)) (es * (rise / ec)) h)
-
-module _ {es ec rise : ℕ} (fits : GainFits es ec rise) where
-  pub whole-part-most : es * (rise / ec) ≤ 2 ^ 54
-  whole-part-most =
-      product 25 29 (omega arith) (div-le-of-le-mul ec (omega (arith, mul-le-mul-left (2 ^ 29) (fits .ec-least))))
-
-  pub rest-most : es * (rise % ec) ≤ 2 ^ 48
-  rest-most =
-      let some : 0 < ec = omega arith in
-      product 25 23 (omega arith) (omega (arith, mod-lt rise some))
-
-  pub gain-fits : momentGain es ec rise < gainLimit
-  gain-fits =
-      omega (arith, gain-in-parts es ec rise (omega arith), whole-part-most, rest-most, div-le-self (es * (rise % ec)) ec)
+pub gain-most : {es ec rise : ℕ} → GainFits es ec rise → momentGain es ec rise ≤ mostGain
+gain-most {ec = ec} fits =
+    div-le-of-le-mul ec
+    (le-trans (product 25 48 (omega arith) (fits .rise-most)) (omega (arith, mul-le-mul-left mostGain (fits .ec-least))))

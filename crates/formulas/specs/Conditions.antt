@@ -2,7 +2,7 @@
 -- product wraps: the powers of two above document 01's ranges.
 use Prim.Native.Nat.{ℕ, _^_, _≤_, _<_}
 use Rattle.ticks.specs.Ticks.{T}
-use Rattle.fields.specs.Limits.{strengths}
+use Rattle.fields.specs.Limits.{strengths, range}
 
 -- ---- the bounds
 
@@ -42,14 +42,14 @@ eciLimit = 2 ^ 23
 
 -- Ec is at least this, and below the next
 abbrev pub leastEc : ℕ
-leastEc = 2 ^ 19
+leastEc = range .Ec .low
 
 abbrev pub ecLimit : ℕ
 ecLimit = 2 ^ 23
 
--- the inertia is at least this, and g at most the next
+-- the inertia is at least this; so g, all moments by the eccentricity over the inertia, is at most the next
 abbrev pub leastInertia : ℕ
-leastInertia = 2 ^ 10
+leastInertia = range .inertia .low
 
 abbrev pub mostMomentStress : ℕ
 mostMomentStress = 2 ^ 48
@@ -71,9 +71,9 @@ creepLimit = 2 ^ 31
 abbrev pub shrinkageLimit : ℕ
 shrinkageLimit = 2 ^ 26
 
--- above every gain, since Es is at most 2^6 times Ec
-abbrev pub gainLimit : ℕ
-gainLimit = 2 ^ 56
+-- the most of a gain, Es by g over Ec
+abbrev pub mostGain : ℕ
+mostGain = 2 ^ 54
 
 -- ---- what each step asks
 
@@ -104,7 +104,7 @@ pub record FactorFits (stress y : ℕ) : Type 0 where
 pub record MomentsFit (moments eccentricity inertia : ℕ) : Type 0 where
   pub moments-fit : moments < momentLimit
   pub eccentricity-fits : eccentricity < eccentricityLimit
-  pub inertia-least : leastInertia ≤ inertia
+  pub some-inertia : 1 ≤ inertia
 
 pub record ConcreteFits (stress kappa : ℕ) : Type 0 where
   pub stress-fits : stress < stressLimit
@@ -130,4 +130,4 @@ pub record GainFits (es ec rise : ℕ) : Type 0 where
   pub es-fits : es < esLimit
   pub ec-least : leastEc ≤ ec
   pub ec-fits : ec < ecLimit
-  pub rise-fits : rise ≤ mostMomentStress
+  pub rise-most : rise ≤ mostMomentStress

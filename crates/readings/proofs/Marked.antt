@@ -1,5 +1,5 @@
--- The theorem `marked`: document 01's marked readings and edges, all of them, and the edge of document 02's 11. Each is computed from the definitions, unfolded down to
--- arithmetic. Assumes nothing.
+-- The theorem `marked`: document 01's marked readings and edges, all of them, and the edge of document 02's 11. Each is computed from the
+-- definitions, unfolded down to arithmetic. Assumes nothing.
 use Prim.Native.Nat.{_+_, _*_}
 use mathlib.Core.Path.{_≡_, refl}
 use mathlib.Core.List.{[], _∷_}

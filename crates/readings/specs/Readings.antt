@@ -19,7 +19,6 @@ use Rattle.member.specs.Member.{frictionOf, memberOf}
 use Rattle.stages.specs.declared.before.BeforeAges.{BeforeAges}
 use Rattle.stages.specs.declared.intervals.Row.{Row}
 use Rattle.stages.specs.Run.{begunOf, endAt, transferEnd, lossesBetween, together, gainBetween, Report, resultRead}
-use Rattle.entries.specs.Answers.{numbersBefore, numbersOfRow}
 use Rattle.text.specs.Columns.{allInColumns, lineOf}
 use Rattle.text.specs.Text.{reportText}
 
@@ -79,7 +78,8 @@ hourly (suc count) hour = (hour ∷ 0 ∷ []) ∷ hourly count (suc hour)
 abbrev pub withAges : ℕ → List ℕ
 withAges count = linesOf (line1 ∷ line2 3072 ∷ line3 ∷ line4 0 0 0 count ∷ hourly count 437936)
 
--- this ultimate strength and a jacking stress of 60,000 psi, Es 2.5 times Ec, an eccentricity of an inch, and at the first age this moment
+-- the sample's but for this ultimate strength, a jacking stress of 60,000 psi, Es 2.5 times Ec, which is Eci too, an eccentricity of an
+-- inch, and at the first age this moment
 abbrev pub withGain : ℕ → ℕ → List ℕ
 withGain strength moment =
     linesOf
@@ -115,9 +115,9 @@ age hour moment = record { hour = hour; moment = moment }
 
 -- the stress after the first age's gain, before it is looked at; 0 of a member that does not reach the age
 abbrev pub firstLifted : Member → OrRefusal BeforeAges → List Age → ℕ
-firstLifted m (Gives before) (age ∷ ages) =
+firstLifted m (Gives before) (first ∷ ages) =
     let start = transferEnd m in
-    let end = endAt m (start .moments + age .moment) (age .hour) in
+    let end = endAt m (start .moments + first .moment) (first .hour) in
     before .stress - together (lossesBetween m (before .stress) start end) + gainBetween m start end
 firstLifted m (Gives before) [] = 0
 firstLifted m (Refuses refusal) ages = 0
@@ -169,8 +169,10 @@ pub record Marked : Type 0 where
   pub sample-ages : agesRead (quantitiesRead (cardOutcome sample)) ≡ age 744 0 ∷ age 8784 0 ∷ age 438000 0 ∷ []
   pub sample-result : resultOfCard sample 15 ≡ Gives (record { before = sampleBefore; rows = row1 ∷ row2 ∷ row3 ∷ []; last = 91437232 })
   pub sample-printed : reportText sample
-      ≡ linesOf (numbersBefore sampleBefore ∷ (1 ∷ 744 ∷ numbersOfRow row1) ∷ (2 ∷ 8784 ∷ numbersOfRow row2)
-      ∷ (3 ∷ 438000 ∷ numbersOfRow row3) ∷ [])
+      ≡ linesOf
+      ((0 ∷ 0 ∷ 0 ∷ 0 ∷ 7228235 ∷ 115651765 ∷ []) ∷ (1 ∷ 744 ∷ 3026370 ∷ 5548031 ∷ 1651198 ∷ 105426166 ∷ 0 ∷ [])
+      ∷ (2 ∷ 8784 ∷ 3074075 ∷ 5812223 ∷ 572430 ∷ 95967438 ∷ 0 ∷ [])
+      ∷ (3 ∷ 438000 ∷ 1865515 ∷ 1849344 ∷ 815347 ∷ 91437232 ∷ 0 ∷ []) ∷ [])
   -- "L(1)=0, L(2)=77, L(9)=244, L(10)=256, L(18)=321, L(720)=731"
   pub L1 : logarithm 1 ≡ 0
   pub L2 : logarithm 2 ≡ 77
@@ -202,8 +204,13 @@ pub record Marked : Type 0 where
   -- "64 ages pass, 65 give 2", at field 24
   pub ages-64 : numberAndPlace (resultOfCard (withAges 64) 320) ≡ 0 ∷ 0 ∷ []
   pub ages-65 : numberAndPlace (resultOfCard (withAges 65) 325) ≡ 2 ∷ 24 ∷ []
-  -- document 02, W1: "11 when the stress after a gain passes 0.80 F": to the tick it passes, a tick above it is refused at age 1
-  pub gain-reaches : 100 * firstLiftedOf (withGain 150005 28603053056) ≡ 80 * 150005 * 1024
-  pub gain-reaches-passes : numberAndPlace (resultOfCard (withGain 150005 28603053056) 15) ≡ 0 ∷ 0 ∷ []
-  pub gain-above : 100 * firstLiftedOf (withGain 150000 28601375744) ≡ 80 * 150000 * 1024 + 100 * 1
+  -- document 02, W1: "11 when the stress after a gain passes 0.80 F". To the tick it passes, "after the stress" stands the gain; a tick
+  -- above it is refused at age 1
+  pub gain-reaches : 100 * 122884096 ≡ 80 * 150005 * 1024
+  pub gain-reaches-passes : reportText (withGain 150005 28603053056)
+      ≡ linesOf
+      ((0 ∷ 0 ∷ 0 ∷ 0 ∷ 1320974 ∷ 60119026 ∷ []) ∷ (1 ∷ 744 ∷ 1769838 ∷ 4438425 ∷ 858339 ∷ 122884096 ∷ 69831672 ∷ [])
+      ∷ (2 ∷ 8784 ∷ 0 ∷ 4649779 ∷ 5220032 ∷ 113014285 ∷ 0 ∷ [])
+      ∷ (3 ∷ 438000 ∷ 0 ∷ 1479475 ∷ 6060330 ∷ 105474480 ∷ 0 ∷ []) ∷ [])
+  pub gain-above : 100 * firstLiftedOf (withGain 150000 28601375744) ≡ 80 * 150000 * 1024 + 100
   pub gain-above-refused : numberAndPlace (resultOfCard (withGain 150000 28601375744) 15) ≡ 11 ∷ 1 ∷ []

@@ -7,7 +7,7 @@ use Rattle.logarithm.proofs.Largest.{no-more}
 use Rattle.coefficient.proofs.Laws.{creep-most, shrinkage-most}
 use Rattle.fields.specs.Limits.{mostMoment}
 use Rattle.member.specs.declared.Member.{Member}
-use Rattle.formulas.proofs.Laws.{moment-stress-fits}
+use Rattle.formulas.proofs.Laws.{moment-stress-most}
 use Rattle.stages.specs.Conditions.{Bounded, EndBounded}
 use Rattle.stages.specs.Run.{endAt}
 
@@ -17,7 +17,9 @@ logarithm-most hour = no-more lastThreshold hour
 
 pub end-bounded : (m : Member) (moments hour : ℕ) → Bounded m → moments ≤ mostMoment → EndBounded (endAt m moments hour)
 end-bounded m moments hour bounds most = record {
-  g-fits = moment-stress-fits (record { moments-fit = omega arith; eccentricity-fits = omega arith; inertia-least = bounds .inertia });
+  g-most =
+      moment-stress-most (record { moments-fit = omega arith; eccentricity-fits = omega arith; some-inertia = omega arith })
+      (bounds .inertia);
   creep-fits = creep-most _ _;
   shrinkage-fits = shrinkage-most _ _;
   logarithm-fits = logarithm-most _;

@@ -9,22 +9,30 @@ use borrow.Author.Tests.{le-leb, lt-leb, leb-true}
 use Rattle.ticks.specs.Ticks.{ticksPerUnit}
 use Rattle.fields.specs.declared.refusal.Refusal.{Refusal}
 use Rattle.fields.specs.declared.refusal.Refusal.the-variants.{Stress, Overstress}
-use Rattle.fields.specs.Outcomes.{Gives, Refuses}
+use Rattle.fields.specs.Outcomes.{OrRefusal, Gives, Refuses}
 use Rattle.fields.specs.Limits.{leastStress, mostOfStrength, hundredths, strengths}
 use Rattle.formulas.specs.Conditions.{stressLimit}
 use Rattle.stages.specs.Run.{after, lifted}
 
 -- ---- a test
 
-tested : (test : Bool) (value : ℕ) (otherwise : Refusal) {given : ℕ} → cond test (Gives value) (Refuses otherwise) ≡ Gives given
-    → (test ≡ true) × (given ≡ value)
-tested true value otherwise e = (refl, cc)
-tested false value otherwise e = let never : _≡_ {A = ℕ} 0 1 = cc in absurd (omega arith)
+module _ (a b value : ℕ) (otherwise : Refusal) where
+  abbrev tested : Bool → OrRefusal ℕ
+  tested test = cond test (Gives value) (Refuses otherwise)
 
-not-passed : (test : Bool) (value : ℕ) (otherwise : Refusal) {refusal : Refusal}
-    → cond test (Gives value) (Refuses otherwise) ≡ Refuses refusal → otherwise ≡ refusal
-not-passed true value otherwise e = let never : _≡_ {A = ℕ} 0 1 = cc in absurd (omega arith)
-not-passed false value otherwise e = cc
+  passed : {given : ℕ} → tested (leb a b) ≡ Gives given → (a ≤ b) × (given ≡ value)
+  passed {given} = by (leb a b) refl
+    where
+      by : (test : Bool) → leb a b ≡ test → tested test ≡ Gives given → (a ≤ b) × (given ≡ value)
+      by true h e = (leb-true a b h, cc)
+      by false h e = let never : _≡_ {A = ℕ} 0 1 = cc in absurd (omega arith)
+
+  failed : {refusal : Refusal} → tested (leb a b) ≡ Refuses refusal → otherwise ≡ refusal
+  failed {refusal} = by (leb a b)
+    where
+      by : (test : Bool) → tested test ≡ Refuses refusal → otherwise ≡ refusal
+      by true e = let never : _≡_ {A = ℕ} 0 1 = cc in absurd (omega arith)
+      by false e = cc
 
 -- ---- a loss
 
@@ -37,14 +45,13 @@ module _ (place stress loss : ℕ) where
 
   -- a loss that leaves 1,000 psi, and what it leaves
   pub after-gives : (left : ℕ) → after place stress loss ≡ Gives left → (loss + leastStress ≤ stress) × (left ≡ stress - loss)
-  after-gives left e =
-      let (enough, is) = tested (leb (loss + leastStress) stress) (stress - loss) (Stress place) e in (leb-true (loss + leastStress) stress enough, is)
+  after-gives left e = passed (loss + leastStress) stress (stress - loss) (Stress place) e
 
   pub left-fits : (left : ℕ) → stress < stressLimit → after place stress loss ≡ Gives left → left < stressLimit
   left-fits left fits e = let (enough, is) = after-gives left e in omega arith
 
   pub refuses-stress : {refusal : Refusal} → after place stress loss ≡ Refuses refusal → Stress place ≡ refusal
-  refuses-stress e = not-passed (leb (loss + leastStress) stress) (stress - loss) (Stress place) e
+  refuses-stress e = failed (loss + leastStress) stress (stress - loss) (Stress place) e
 
 -- ---- a gain
 
@@ -62,11 +69,10 @@ module _ (number strength stress gain : ℕ) where
   -- a gain that does not lead past 0.80 F, and where it leads
   pub lifted-gives : (risen : ℕ) → lifted number strength stress gain ≡ Gives risen
       → (hundredths * (stress + gain) ≤ most) × (risen ≡ stress + gain)
-  lifted-gives risen e =
-      let (low, is) = tested (leb (hundredths * (stress + gain)) most) (stress + gain) (Overstress number) e in (leb-true (hundredths * (stress + gain)) most low, is)
+  lifted-gives risen e = passed (hundredths * (stress + gain)) most (stress + gain) (Overstress number) e
 
   pub lifted-fits : (risen : ℕ) → strength ≤ strengths .high → lifted number strength stress gain ≡ Gives risen → risen < stressLimit
   lifted-fits risen strong e = let (low, is) = lifted-gives risen e in omega arith
 
   pub refuses-overstress : {refusal : Refusal} → lifted number strength stress gain ≡ Refuses refusal → Overstress number ≡ refusal
-  refuses-overstress e = not-passed (leb (hundredths * (stress + gain)) most) (stress + gain) (Overstress number) e
+  refuses-overstress e = failed (hundredths * (stress + gain)) most (stress + gain) (Overstress number) e

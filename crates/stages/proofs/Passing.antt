@@ -17,7 +17,7 @@ use Rattle.stages.specs.declared.ends.End.{End}
 use Rattle.stages.specs.declared.intervals.Losses.{Losses}
 use Rattle.stages.specs.declared.intervals.Row.{Row}
 use Rattle.stages.specs.Run.{after, lifted, lossesBetween, together, gainBetween, rowOf, rowBetween}
-use Rattle.stages.specs.Conditions.{Bounded, PassFits}
+use Rattle.stages.specs.Conditions.{Bounded, GainedFits, PassFits}
 use Rattle.stages.proofs.Leaving.{lifted-fits, refuses-stress, refuses-overstress}
 
 pub record LossesFit (losses : Losses) : Type 0 where
@@ -55,17 +55,18 @@ module _ (m : Member) (stress : ℕ) (start end : End) (fits : PassFits m stress
     relaxation-fits = omega (arith, relaxation-most (m .steel) relaxation);
   }
 
-  -- the gain, from a rise of g
-  pub rise-fits : GainFits (m .es) (m .ec) (end .g - start .g)
-  rise-fits = record {
-    es-fits = fits .member .es-fits;
-    ec-least = fits .member .ec;
-    ec-fits = fits .member .ec-fits;
-    rise-fits = omega arith;
-  }
-
   pub losses-fit : (losses : Losses) → losses ≡ lossesBetween m stress start end → LossesFit losses
   losses-fit losses is = rw is between-fit
+
+-- ---- the gain
+
+pub gain-asks : {m : Member} {end : End} (start : End) → GainedFits m end → GainFits (m .es) (m .ec) (end .g - start .g)
+gain-asks start fits = record {
+  es-fits = fits .member .es-fits;
+  ec-least = fits .member .ec;
+  ec-fits = fits .member .ec-fits;
+  rise-most = omega arith;
+}
 
 -- ---- the row
 

@@ -10,7 +10,7 @@ use Rattle.member.specs.declared.Member.{Member}
 use Rattle.fields.specs.Limits.{strengths, mostMoment, mostKappa, mostAges}
 use Rattle.formulas.specs.Conditions.{stressLimit, frictionLimit, slipLimit, lengthLimit, deflectorLimit, leastStrength, esLimit}
 use Rattle.formulas.specs.Conditions.{eciLimit, leastEc, ecLimit, leastInertia, mostMomentStress, eccentricityLimit, creepLimit}
-use Rattle.formulas.specs.Conditions.{shrinkageLimit, gainLimit}
+use Rattle.formulas.specs.Conditions.{shrinkageLimit, mostGain}
 use Rattle.stages.specs.declared.ends.End.{End}
 use Rattle.stages.specs.Run.{jacked, transferEnd}
 
@@ -43,7 +43,7 @@ pub record Bounded (m : Member) : Type 0 where
 
 -- what stands at an end
 pub record EndBounded (end : End) : Type 0 where
-  pub g-fits : end .g ≤ mostMomentStress
+  pub g-most : end .g ≤ mostMomentStress
   pub creep-fits : end .creep ≤ T
   pub shrinkage-fits : end .shrinkage ≤ T
   pub logarithm-fits : end .logarithm ≤ lastThreshold
@@ -65,11 +65,15 @@ pub record LossFits (m : Member) (transfer : End) (stress : ℕ) : Type 0 where
   pub begin : BeginFits m transfer
   pub stress-fits : stress < stressLimit
 
--- what a gain asks of the stress that it lifts
+-- what the gain at an end asks, and what it asks of the stress that it lifts
+pub record GainedFits (m : Member) (end : End) : Type 0 where
+  pub member : Bounded m
+  pub end-fits : EndBounded end
+
 pub record LiftFits (ultimateStrength stress gain : ℕ) : Type 0 where
   pub strength-most : ultimateStrength ≤ strengths .high
   pub stress-fits : stress < stressLimit
-  pub gain-fits : gain < gainLimit
+  pub gain-most : gain ≤ mostGain
 
 -- what passing an interval asks
 pub record PassFits (m : Member) (stress : ℕ) (end : End) : Type 0 where

@@ -126,7 +126,7 @@ abbrev pub together : Losses → ℕ
 together losses = losses .creep + losses .shrinkage + losses .relaxation
 
 -- document 02, W1: "After the losses of the interval ending at an age with an added moment, the stress rises by Es times the rise of g
--- over Ec". Without a moment g does not rise, and the gain is 0.
+-- over Ec". g never falls from one end to the next; without a moment it stays, and the gain is 0.
 abbrev pub gainBetween : Member → End → End → ℕ
 gainBetween m start end = momentGain (m .es) (m .ec) (end .g - start .g)
 
@@ -152,8 +152,8 @@ rowBetween m number stress start end =
     let losses = lossesBetween m stress start end in
     let gain = gainBetween m start end in
     onward (after number stress (together losses)) (λ left.
-    onward (lifted number (m .«ultimate_strength») left gain) (λ stress.
-    Gives (rowOf losses stress gain)))
+    onward (lifted number (m .«ultimate_strength») left gain) (λ risen.
+    Gives (rowOf losses risen gain)))
 
 -- what all ages give: their rows, and the stress after the last
 pub record Aged : Type 0 where
@@ -164,7 +164,7 @@ abbrev pub behind : Row → Aged → Aged
 behind row later = record { rows = row ∷ later .rows; last = later .last }
 
 -- ages that follow `passed` others, from the stress and the end at which the first interval starts. An age's moment stands at its own
--- end, so that it counts in later intervals alone.
+-- end, so that it counts in the losses of later intervals alone, and in the gain at its age.
 unfoldable pub agedFrom : Member → ℕ → ℕ → End → List Age → OrRefusal Aged
 agedFrom m passed stress start [] = Gives (record { rows = []; last = stress })
 agedFrom m passed stress start (age ∷ ages) =

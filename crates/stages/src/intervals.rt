@@ -1,7 +1,7 @@
 // The losses of an interval and the gain at its end, from its two ends, and the row of the age at which it ends.
 ghost use mathlib.Core.Path.{_≡_};
-ghost use Rattle.stages.specs.Run.{lossesBetween, rowBetween};
-ghost use Rattle.stages.specs.Conditions.{PassFits};
+ghost use Rattle.stages.specs.Run.{lossesBetween, gainBetween, rowBetween};
+ghost use Rattle.stages.specs.Conditions.{GainedFits, PassFits};
 ghost use Rattle.stages.specs.Given.{rowGiven};
 use crate::ends::End;
 use crate::stress;
@@ -49,6 +49,15 @@ fn losses_between(m: Member, stress: u64, start: End, end: End) -> Losses
     }
 }
 
+// The gain from the moment that is added at an interval's end.
+fn gain_between(m: Member, start: End, end: End) -> u64
+    requires { ⌜ GainedFits m end ⌝ }
+    ensures { λ r. ⌜ r ≡ gainBetween m start end ⌝ }
+{
+    let rise = formulas::difference(end.g, start.g);
+    formulas::moment_gain(m.es, m.ec, rise)
+}
+
 // All three losses leave the stress together, and the gain follows. The interval ends at the age of this number.
 pub fn pass(m: Member, number: u64, stress: u64, start: End, end: End) -> Passed
     requires { ⌜ PassFits m stress end ⌝ }
@@ -56,18 +65,17 @@ pub fn pass(m: Member, number: u64, stress: u64, start: End, end: End) -> Passed
 {
     let losses = losses_between(m, stress, start, end);
     let together = losses.creep + losses.shrinkage + losses.relaxation;
-    let rise = formulas::difference(end.g, start.g);
-    let gain = formulas::moment_gain(m.es, m.ec, rise);
+    let gain = gain_between(m, start, end);
     let left = match stress::after(number, stress, together) {
         NumberOrRefusal::Number(left) => left,
         NumberOrRefusal::Refused(refusal) => return Passed::Refused(refusal),
     };
     match stress::lifted(number, m.ultimate_strength, left, gain) {
-        NumberOrRefusal::Number(stress) => Passed::By(Row {
+        NumberOrRefusal::Number(risen) => Passed::By(Row {
             creep: losses.creep,
             shrinkage: losses.shrinkage,
             relaxation: losses.relaxation,
-            stress,
+            stress: risen,
             gain,
         }),
         NumberOrRefusal::Refused(refusal) => Passed::Refused(refusal),

@@ -31,9 +31,9 @@ pub fn lifted(number: u64, ultimate_strength: u64, stress: u64, gain: u64) -> Nu
     requires { ⌜ LiftFits «ultimate_strength» stress gain ⌝ }
     ensures { λ r. ⌜ numberGiven r ≡ liftedBy number «ultimate_strength» stress gain ⌝ }
 {
-    let stress = stress + gain;
-    if HUNDREDTHS * stress <= MOST_OF_STRENGTH * ultimate_strength * TICKS_PER_UNIT {
-        return NumberOrRefusal::Number(stress);
+    let risen = stress + gain;
+    if HUNDREDTHS * risen <= MOST_OF_STRENGTH * ultimate_strength * TICKS_PER_UNIT {
+        return NumberOrRefusal::Number(risen);
     }
     NumberOrRefusal::Refused(Refusal::Overstress(number))
 }

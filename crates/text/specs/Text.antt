@@ -1,4 +1,4 @@
--- The report program's text rests on it. What it prints: document 01, "Sample beam".
+-- The report program's text rests on it. What it prints: document 01, "Sample beam", and document 02, W1.
 use Prim.Native.Nat.{ℕ, suc}
 use mathlib.Core.Path.{_≡_}
 use mathlib.Core.List.{List, [], _∷_, _++_}

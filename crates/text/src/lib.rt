@@ -26,7 +26,7 @@ pub const MOST_TEXT_BYTES: usize = MOST_LINE_BYTES * (1 + MOST_AGES);
 // How much of an input decides its text: one byte more than the longest good card has.
 pub const MOST_READ_BYTES: usize = card::MOST_BYTES + 1;
 
-// A line of the first seven numbers at most; how many bytes it has.
+// A line of these numbers, cut to the most that a line has; how many bytes it has.
 pub fn line_of(numbers: &[u64], line: &mut [u8; MOST_LINE_BYTES]) -> usize
     ensures { λ r. ⌜ Holds (lineOf (take mostPerLine (now (numbers .entry)))) r (now (line .exit)) (now (line .entry)) ⌝ }
     ensures { λ r. ⌜ Counted r (now (line .exit)) ⌝ }

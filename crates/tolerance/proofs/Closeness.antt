@@ -47,14 +47,14 @@ module _ {q : Quantities} {report scratch : ℕ} (facts : Facts q report scratch
 
   module _ {δ step : ℕ} {choice : Choice} (allowed : Allowance δ step choice) where
     pub steps-close : {n : ℕ} {steps : List (Fraction → Fraction)} {later : List ℕ} → EachKeepsDistance (mostStressOf q) steps
-        → EachNear q step n steps later → Low q n → (k : ℕ) (y : Fraction) → k + length later ≤ mostSteps
+        → EachNear q step n steps later → (k : ℕ) (y : Fraction) → k + length later ≤ mostSteps
         → Within (whole (k * step)) (whole n) y → Chain step k later (stressesBy steps y)
     unfolding stressesBy
-    steps-close none-keeps none-near n≤ k y k≤ so-far = no-step
-    steps-close (one-keeps {step = exact} keeps keep) (one-near n near nears left≤) n≤ k y k≤ so-far =
+    steps-close none-keeps none-near k y k≤ so-far = no-step
+    steps-close (one-keeps {step = exact} keeps keep) (one-near n n≤ near nears) k y k≤ so-far =
         let y≤ = near-in-room n (k * step) y n≤ (steps-top allowed k (omega arith)) so-far in
         let next = within-weaken (one-step-more k step) (step-close keeps (core-in-room n n≤) y≤ near so-far) in
-        one-step next (steps-close keep nears left≤ (suc k) (exact y) (omega arith) next)
+        one-step next (steps-close keep nears (suc k) (exact y) (omega arith) next)
 
     -- ---- the steps after slip of a run
 
@@ -85,22 +85,21 @@ module _ {q : Quantities} {report scratch : ℕ} (facts : Facts q report scratch
           (coreAfterEarly q before ∷ before .stress ∷ stressesOf rows)
       run-near =
           let covers = allowed .covers in
-          one-near (coreAfterSlip q before)
+          one-near (coreAfterSlip q before) (low facts (coreAfterSlip q before) (omega arith))
           (within-weaken (≼-trans (≼-of-≈ (≈-sym (whole-⊕ (relaxationErrorBy δ) 0))) (whole-order (omega arith)))
           (step-close (early-keeps-distance facts choice (allowed .logs))
           (core-in-room (coreAfterDeflector q before) (low facts (coreAfterDeflector q before) (omega arith)))
           (near-in-room (coreAfterDeflector q before) 0 (afterDeflector choice q (whole (coreAfterSlip q before)))
           (low facts (coreAfterDeflector q before) (omega arith)) (omega arith) deflected)
           relaxed deflected))
-          (one-near (coreAfterEarly q before) (within-weaken (whole-order (omega arith)) shortened)
-          (ages-near facts allowed ran (facts .ages-rise) (low facts (before .stress) (omega (arith, began .closes))))
-          (low facts (before .stress) (omega (arith, began .closes))))
-          (low facts (coreAfterEarly q before) (omega arith))
+          (one-near (coreAfterEarly q before) (low facts (coreAfterEarly q before) (omega arith))
+          (within-weaken (whole-order (omega arith)) shortened)
+          (ages-near facts allowed ran (facts .ages-rise) (low facts (before .stress) (omega (arith, began .closes)))))
 
       -- from the core's stress after slip and any exact stress near it, k steps having been counted
       pub after-slip-close : (k : ℕ) (y : Fraction) → k + length (q .ages) + 2 ≤ mostSteps
           → Within (whole (k * step)) (whole (coreAfterSlip q before)) y
           → Chain step k (coreAfterEarly q before ∷ before .stress ∷ stressesOf rows) (stressesBy (stepsAfterSlip choice q) y)
       after-slip-close k y k≤ =
-          steps-close (steps-keep-distance facts (allowed .logs)) run-near (low facts (coreAfterSlip q before) (omega arith)) k y
+          steps-close (steps-keep-distance facts (allowed .logs)) run-near k y
           (omega (arith, stresses-count rows, rows-count ran))

@@ -25,7 +25,8 @@ use Rattle.stages.specs.declared.before.BeforeAges.{BeforeAges}
 use Rattle.stages.specs.Run.{Report, memberResult}
 use Rattle.tolerance.specs.Method.{Choice, stressAlong, afterDeflector}
 use Rattle.tolerance.specs.Demand.{stepsOf, each, exactAfterSlip, exactStresses, coreAfterSlip, coreAfterDeflector, coreAfterEarly}
-use Rattle.tolerance.specs.Demand.{stressesOf, coreBeforeAges, coreStresses, Close, Falls, Linked, Demand3, lossesBefore, lossesOfRows, gainsOfRows}
+use Rattle.tolerance.specs.Demand.{stressesOf, coreBeforeAges, coreStresses, Close, Falls, Linked, Demand3, lossesBefore}
+use Rattle.tolerance.specs.Demand.{lossesOfRows, gainsOfRows}
 use Rattle.tolerance.proofs.Path.{pathError, friction-of-part, segments-fit-take, friction-leaves, path-close, stress-falls}
 use Rattle.tolerance.proofs.Concrete.{highestStress}
 use Rattle.tolerance.proofs.Bounds.{low, low-top}
@@ -168,7 +169,7 @@ demand-3 q report scratch few-segments few-ages facts given result =
       narrow = close facts few-segments few-ages began ran narrow-allowance;
       wide = λ choice admissible. close facts few-segments few-ages began ran (wide-allowance admissible);
       falls = falls facts few-segments few-ages began ran;
-      rises = ages-rise ran;
+      rises = ages-rise facts ran;
       closes = closes facts few-segments few-ages began ran;
       linked = linked facts few-segments few-ages began ran;
     }

@@ -1,7 +1,7 @@
 -- No step of the method in fractions brings two stresses further apart, whatever two fractions they are, up to 1.1·Y. Slip and the
 -- deflector loss take the same off any stress. What the other steps take off has a slope: shortening 1, early relaxation 15/16, an
--- age's creep 17/16 and its relaxation 15/16, while its shrinkage and its gain do not depend on the stress; no step's slopes sum to more than 2.
--- Assumes nothing.
+-- age's creep 17/16 and its relaxation 15/16, while its shrinkage and its gain do not depend on the stress; no step's slopes sum to more
+-- than 2. Assumes nothing.
 use mathlib.Core.List.{List, [], _∷_}
 use Prim.Native.Nat.{ℕ, _+_, _*_}
 use native.Mathlib.Nat.{le-trans}

@@ -12,16 +12,15 @@ use Rattle.formulas.specs.Steps.{momentGain as ticksMomentGain}
 use Rattle.tolerance.specs.Formulas.{_÷_, momentGain}
 use Rattle.tolerance.proofs.Rounded.{Rounded, product-near, difference-near}
 
--- the most of Es over the least of Ec
-abbrev pub mostRatio : ℕ
-mostRatio = range .Es .high / range .Ec .low
+-- Es over Ec, at the most
+abbrev mostModularRatio : ℕ
+mostModularRatio = range .Es .high / range .Ec .low
+
+abbrev pub gainError : ℕ
+gainError = mostModularRatio + 1
 
 -- a tick of g, and a division
-abbrev pub gainError : ℕ
-gainError = mostRatio + 1
-
--- a tick of g by Es over Ec, and the division
-tick-covered : (es ec n : ℕ) → 0 < ec → es ≤ mostRatio * ec
+tick-covered : (es ec n : ℕ) → 0 < ec → es ≤ mostModularRatio * ec
     → whole 1 ⊕ (1 ÷ ec) ⊗ (whole 0 ⊗ whole n ⊕ whole es ⊗ whole 1) ≼ whole gainError
 unfolding _÷_ whole _⊕_ _⊗_
 tick-covered es ec n some ratio = record { at-most = omega arith }

@@ -1,6 +1,6 @@
 -- At the same whole stress a step of the core lies near the step in fractions. What the core's step leaves differs from what the
--- exact step leaves as the two losses differ, and each loss has its own error; an age's three and its gain's add up. Along a run `EachNear` says it
--- of every step after slip, from the core's own stress before the step. Assumes nothing.
+-- exact step leaves as the two losses differ, and each loss has its own error; those of an age's three and of its gain add up. Along a
+-- run `EachNear` says it of every step after slip, from the core's own stress before the step. Assumes nothing.
 use mathlib.Core.List.{List, [], _∷_}
 use Prim.Native.Nat.{ℕ, _+_, _-_, _*_, _≤_}
 use native.Mathlib.Nat.{le-trans, mul-pos}
@@ -41,7 +41,7 @@ use Rattle.tolerance.proofs.Run.{AgesRun, no-age, an-age}
 abbrev pub slipError : ℕ
 slipError = 1
 
--- two together
+-- two losses together, or a stress and a gain
 sum-near : (a b d e : ℕ) {x y : Fraction} → Within (whole d) (whole a) x → Within (whole e) (whole b) y
     → Within (whole (d + e)) (whole (a + b)) (x ⊕ y)
 sum-near a b d e near-x near-y =
@@ -106,13 +106,13 @@ module _ {q : Quantities} {report scratch : ℕ} (facts : Facts q report scratch
 
 -- ---- the steps of a run
 
--- the core's stresses from n on, beside steps in fractions: none is above 0.80 F, and each is near what its step makes of the one
--- before
+-- the core's stresses from n on, beside steps in fractions: no step starts above 0.80 F, and each stress is near what its step makes of
+-- the one before
 pub data EachNear (q : Quantities) (error : ℕ) : ℕ → List (Fraction → Fraction) → List ℕ → Type 0 where
   no-step : {n : ℕ} → EachNear q error n [] []
-  a-step : (n : ℕ) {left : ℕ} {step : Fraction → Fraction} {steps : List (Fraction → Fraction)} {later : List ℕ}
-      → Within (whole error) (whole left) (step (whole n)) → EachNear q error left steps later → Low q left
-      → EachNear q error n (step ∷ steps) (left ∷ later)
+  a-step : (n : ℕ) {next : ℕ} {step : Fraction → Fraction} {steps : List (Fraction → Fraction)} {later : List ℕ} → Low q n
+      → Within (whole error) (whole next) (step (whole n)) → EachNear q error next steps later
+      → EachNear q error n (step ∷ steps) (next ∷ later)
 
 module _ {q : Quantities} {report scratch : ℕ} (facts : Facts q report scratch) {δ step : ℕ} {choice : Choice}
     (allowed : Allowance δ step choice) where
@@ -123,5 +123,6 @@ module _ {q : Quantities} {report scratch : ℕ} (facts : Facts q report scratch
   ages-near no-age rising stress≤ = no-step
   ages-near (an-age {moments} {hour} {stress} {age} fits low run) (rises on life rising) stress≤ =
       let ends = between facts (allowed .logs) moments (moments + age .moment) hour (age .hour) (omega arith) (omega arith) life in
-      a-step stress (within-weaken (whole-order (allowed .covers)) (after-age-near facts choice stress stress≤ ends (omega arith)))
-      (ages-near run rising low) low
+      a-step stress stress≤
+      (within-weaken (whole-order (allowed .covers)) (after-age-near facts choice stress stress≤ ends (omega arith)))
+      (ages-near run rising low)

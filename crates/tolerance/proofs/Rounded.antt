@@ -119,7 +119,7 @@ pub floor-product-above : (a b d : ℕ) → 0 < d → whole a ⊗ whole b ≼ wh
 unfolding whole _⊗_ _⊕_
 floor-product-above a b d h = record { at-most = omega (arith, lt-mul-div-succ (a * b) h) }
 
--- ---- differences that stop at 0
+-- ---- differences
 
 -- what both lose on the same side does not add up
 pub difference-near : {e x y : Fraction} {m n : ℕ} → whole 1 ≼ e → Rounded e m x → Rounded (whole 1) n y →
@@ -131,6 +131,7 @@ difference-near {e} {x} {y} {m} {n} one r s = record {
       (λ E X Y M N. X ⊑ M ⊞ E ∷ N ⊑ Y ∷ [] ⊢ X ⊟ Y ⊑ M ⊟ N ⊞ E) tt (r .greatest) (s .least);
 }
 
+-- a difference that stops at 0
 pub rounded-difference : {e x y : Fraction} {m n : ℕ} → whole 1 ≼ e → Rounded e m x → Rounded (whole 1) n y →
     Within e (whole (m - n)) (larger (x ⊖ y) (whole 0))
 rounded-difference {m = m} {n} one r s =

@@ -14,18 +14,20 @@ use Rattle.fields.specs.Quantities.{Quantities, Age}
 use Rattle.fields.specs.Limits.{leastStress}
 use Rattle.fields.proofs.Onward.{through}
 use Rattle.member.specs.Member.{memberOf}
+use Rattle.member.specs.Facts.{Facts}
 use Rattle.member.specs.Constants.{jacked, frictionAlong}
 use Rattle.formulas.specs.Steps.{slipLoss, deflectorTicks, momentGain}
 use Rattle.stages.specs.declared.before.BeforeAges.{BeforeAges}
+use Rattle.stages.specs.declared.ends.End.{End}
 use Rattle.stages.specs.declared.intervals.Losses.{Losses}
 use Rattle.stages.specs.declared.intervals.Row.{Row}
 use Rattle.stages.specs.Run.{after, beforeAges, earlyRelaxationOf, shorteningOf, seated, begunOf, endAt, transferEnd, lossesBetween}
 use Rattle.stages.specs.Run.{together, lifted, gainBetween, rowOf, rowBetween, Aged, agedFrom, Report, memberResult}
 use Rattle.stages.proofs.Leaving.{after-gives, lifted-gives}
 use Rattle.tolerance.specs.Demand.{coreAfterDeflector, coreAfterEarly, stressesOf, lossesBefore, lossesOfRows, gainsOfRows}
-use Rattle.tolerance.specs.Demand.{momentStressOf, RisesByGain, EachRisesByGain}
+use Rattle.tolerance.specs.Demand.{gUnder, RisesByGain, EachRisesByGain}
 use Rattle.tolerance.specs.Demand.{no-age as none-rises, an-age as one-rises}
-use Rattle.tolerance.proofs.Bounds.{Low}
+use Rattle.tolerance.proofs.Bounds.{Low, moment-rises}
 
 -- ---- what a run that is not refused went through
 
@@ -89,16 +91,16 @@ begun q e =
 
 -- ---- the ages
 
--- the losses of an interval of the member, from these moments and this hour to an age
-abbrev pub lossesTo : Quantities → (moments hour stress : ℕ) → Age → Losses
-lossesTo q moments hour stress age =
-    lossesBetween (memberOf q) stress (endAt (memberOf q) moments hour)
-    (endAt (memberOf q) (moments + age .moment) (age .hour))
+-- the end of an interval of the member at an age, before which there were these moments
+abbrev endTo : Quantities → ℕ → Age → End
+endTo q moments age = endAt (memberOf q) (moments + age .moment) (age .hour)
 
--- the gain at the age, the stress after both, and the row
+-- from these moments and this hour to the age: the losses, the gain, the stress after both, and the row
+abbrev pub lossesTo : Quantities → (moments hour stress : ℕ) → Age → Losses
+lossesTo q moments hour stress age = lossesBetween (memberOf q) stress (endAt (memberOf q) moments hour) (endTo q moments age)
+
 abbrev pub gainTo : Quantities → (moments hour : ℕ) → Age → ℕ
-gainTo q moments hour age =
-    gainBetween (memberOf q) (endAt (memberOf q) moments hour) (endAt (memberOf q) (moments + age .moment) (age .hour))
+gainTo q moments hour age = gainBetween (memberOf q) (endAt (memberOf q) moments hour) (endTo q moments age)
 
 abbrev pub stressTo : Quantities → (moments hour stress : ℕ) → Age → ℕ
 stressTo q moments hour stress age = stress - together (lossesTo q moments hour stress age) + gainTo q moments hour age
@@ -122,13 +124,11 @@ unfolding agedFrom memberOf
 ages-run q passed moments hour stress [] aged e =
     subst (λ (a : Aged). AgesRun q moments hour stress [] (a .rows) (a .last)) (gives-same e) no-age
 ages-run q passed moments hour stress (age ∷ ages) aged e =
-    let m = memberOf q in
-    let start = endAt m moments hour in
-    let end = endAt m (moments + age .moment) (age .hour) in
-    let losses = lossesBetween m stress start end in
-    let passes = through (rowBetween m (suc passed) stress start end) _ e in
-    let (fits, lifts) = goes-on (suc passed) stress (together losses) _ (passes .given-is) in
-    let (low, row) = rises-on q (suc passed) (stress - together losses) (gainTo q moments hour age) _ lifts in
+    let start = endAt (memberOf q) moments hour in
+    let lost = together (lossesTo q moments hour stress age) in
+    let passes = through (rowBetween (memberOf q) (suc passed) stress start (endTo q moments age)) _ e in
+    let (fits, lifts) = goes-on (suc passed) stress lost _ (passes .given-is) in
+    let (low, row) = rises-on q (suc passed) (stress - lost) (gainTo q moments hour age) _ lifts in
     let later = through _ _ (rw (← gives-same row) at (passes .next-is)) in
     subst (λ (a : Aged). AgesRun q moments hour stress (age ∷ ages) (a .rows) (a .last)) (gives-same (later .next-is))
     (an-age fits low
@@ -156,22 +156,25 @@ run q report e =
 -- ---- what the ages' run shows
 
 -- where no moment is added g stays, whatever it is
-no-gain : (es ec : ℕ) (g : ℕ → ℕ) (moments added : ℕ) → added ≡ 0 → momentGain es ec (g (moments + added) - g moments) ≡ 0
-no-gain es ec g moments added none = rw (none, add-zero moments, sub-self (g moments), mul-zero es, zero-div ec)
+no-moment : (es ec : ℕ) (g : ℕ → ℕ) (moments added : ℕ) → added ≡ 0 → momentGain es ec (g (moments + added) - g moments) ≡ 0
+no-moment es ec g moments added none = rw (none, add-zero moments, sub-self (g moments), mul-zero es, zero-div ec)
+
+pub ages-rise : {q : Quantities} {report scratch : ℕ} → Facts q report scratch → {moments hour stress last : ℕ} {ages : List Age}
+    {rows : List Row} → AgesRun q moments hour stress ages rows last → EachRisesByGain q moments stress ages rows
+unfolding memberOf
+ages-rise facts no-age = none-rises
+ages-rise {q} facts (an-age {moments} {hour} {stress} {age} fits low run) =
+    let none = no-moment (q .Es) (q .Ec) (gUnder q) moments (age .moment) in
+    let rises : RisesByGain q moments stress age (rowTo q moments hour stress age) = record {
+      gain-is = refl;
+      g-rises = moment-rises facts moments (moments + age .moment) (omega arith);
+      no-gain = none;
+      only-there = λ still. omega (arith, none still);
+      by-just-that = omega arith;
+    } in
+    one-rises rises (ages-rise facts run)
 
 module _ {q : Quantities} where
-  pub ages-rise : {moments hour stress last : ℕ} {ages : List Age} {rows : List Row}
-      → AgesRun q moments hour stress ages rows last → EachRisesByGain q moments stress ages rows
-  unfolding memberOf
-  ages-rise no-age = none-rises
-  ages-rise (an-age {moments} {hour} {stress} {age} fits low run) =
-      let rises : RisesByGain q moments stress age (rowTo q moments hour stress age) = record {
-        gain-is = refl;
-        only-there = no-gain (q .Es) (q .Ec) (momentStressOf q) moments (age .moment);
-        by-just-that = omega arith;
-      } in
-      one-rises rises (ages-rise run)
-
   pub ages-close-up : {moments hour stress last : ℕ} {ages : List Age} {rows : List Row}
       → AgesRun q moments hour stress ages rows last → stress + gainsOfRows rows ≡ last + lossesOfRows rows
   unfolding lossesOfRows gainsOfRows

@@ -47,7 +47,7 @@ coreAfterDeflector q before = coreAfterSlip q before - before .deflector
 abbrev pub coreAfterEarly : Quantities → BeforeAges → ℕ
 coreAfterEarly q before = coreAfterDeflector q before - before .«early_relaxation»
 
--- at an age it is "that after the gain"
+-- the reported stresses of the ages, each "that after the gain"
 unfoldable pub stressesOf : List Row → List ℕ
 stressesOf [] = []
 stressesOf (row ∷ rows) = row .stress ∷ stressesOf rows
@@ -101,18 +101,21 @@ unfoldable pub gainsOfRows : List Row → ℕ
 gainsOfRows [] = 0
 gainsOfRows (row ∷ rows) = row .gain + gainsOfRows rows
 
--- "g = M·e/I", in ticks
-abbrev pub momentStressOf : Quantities → ℕ → ℕ
-momentStressOf q moments = momentStress moments (q .eccentricity) (q .inertia)
+-- "g = M·e/I", under these moments, in ticks
+abbrev pub gUnder : Quantities → ℕ → ℕ
+gUnder q moments = momentStress moments (q .eccentricity) (q .inertia)
 
--- document 02, W1: the stress "rises only there", at an age with an added moment, "and by just that gain", ⌊Es·Δg/Ec⌋: so at an age,
--- from the moments and the stress before it
+-- document 02, W1: "it rises only there and by just that gain". So at an age, from the moments and the stress before it: the gain is
+-- ⌊Es·Δg/Ec⌋, where g never falls, and 0 where no moment is added; there the stress does not rise; and it rises by the gain, less what
+-- it loses.
 pub record RisesByGain (q : Quantities) (moments stress : ℕ) (age : Age) (row : Row) : Type 0 where
-  pub gain-is : row .gain ≡ momentGain (q .Es) (q .Ec) (momentStressOf q (moments + age .moment) - momentStressOf q moments)
-  pub only-there : age .moment ≡ 0 → row .gain ≡ 0
+  pub gain-is : row .gain ≡ momentGain (q .Es) (q .Ec) (gUnder q (moments + age .moment) - gUnder q moments)
+  pub g-rises : gUnder q moments ≤ gUnder q (moments + age .moment)
+  pub no-gain : age .moment ≡ 0 → row .gain ≡ 0
+  pub only-there : age .moment ≡ 0 → row .stress ≤ stress
   pub by-just-that : stress + row .gain ≡ row .stress + lossesOfRow row
 
--- and so at each age in turn
+-- so at each age in turn
 pub data EachRisesByGain (q : Quantities) : (moments stress : ℕ) → List Age → List Row → Type 0 where
   no-age : {moments stress : ℕ} → EachRisesByGain q moments stress [] []
   an-age : {moments stress : ℕ} {age : Age} {row : Row} {ages : List Age} {rows : List Row} → RisesByGain q moments stress age row

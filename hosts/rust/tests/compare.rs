@@ -1,4 +1,4 @@
-//! The core against the paper's method as the tests write it, on random inputs: good members, edges of every range, damaged bytes,
+//! The core against the papers' method as the tests write it, on random inputs: good members, edges of every range, damaged bytes,
 //! NaN payloads, odd lengths, short buffers. Every byte of reply, report and scratch is compared.
 
 mod paper;

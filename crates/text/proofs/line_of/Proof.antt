@@ -1,4 +1,4 @@
--- A line of six numbers, or of all where there are fewer. Assumes nothing.
+-- The numbers are cut to the most that a line has, or are all where there are fewer. Assumes nothing.
 use mathlib.Core.Path.{_≡_, sym}
 use mathlib.Core.List.{List}
 use Prim.Native.Nat.{ℕ, _<_}
@@ -11,14 +11,14 @@ use Rattle.text.proofs.Laying.{counted}
 use Rattle.text.proofs.line_of.Statement.{statement}
 use Rattle.text.proofs.line_of.Tie as tie
 
-six : (numbers : List ℕ) → mostPerLine < length numbers → length (take mostPerLine numbers) ≡ mostPerLine
-six numbers more = length-take-le mostPerLine numbers (omega arith)
+most-taken : (numbers : List ℕ) → mostPerLine < length numbers → length (take mostPerLine numbers) ≡ mostPerLine
+most-taken numbers more = length-take-le mostPerLine numbers (omega arith)
 
 slice-aggregate-put-line : tie.Need-slice-aggregate-put-line
-slice-aggregate-put-line c = sym (six (c .before .before .before .before .args .numbers .now) (search needs))
+slice-aggregate-put-line c = sym (most-taken (c .before .before .before .before .args .numbers .now) (search needs))
 
 put-line-requires : tie.Need-put-line-requires
-put-line-requires c κs = omega (arith, six (c .before .before .before .before .args .numbers .now) (search needs))
+put-line-requires c κs = omega (arith, most-taken (c .before .before .before .before .args .numbers .now) (search needs))
 
 returns : tie.Need-returns
 returns c = (c .put-line .ensures, counted (c .put-line .ensures))

@@ -1,9 +1,12 @@
 -- `cases::cards::run_cards` is safe and ends: the cards that are left fall with each turn. Assumes nothing.
-use Prim.Native.Nat.{_≤_, _-_}
+use Prim.Native.Nat.{ℕ, _≤_, _-_}
 use native.Mathlib.Omega.{arith}
-use Rattle.cases.specs.Sizes.{mostCards}
 use Rattle.cases.proofs.cards.run_cards.Statement.{statement}
 use Rattle.cases.proofs.cards.run_cards.Tie as tie
+
+-- a stored card's number has four digits
+abbrev mostCards : ℕ
+mostCards = 10000
 
 abbrev Inv-loop : tie.InvT-loop
 Inv-loop number₀ number = number ≤ mostCards

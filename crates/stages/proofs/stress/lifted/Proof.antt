@@ -5,8 +5,8 @@ use Rattle.stages.proofs.Leaving.{lifts, passes-limit}
 use Rattle.stages.proofs.stress.lifted.Statement.{statement}
 use Rattle.stages.proofs.stress.lifted.Tie as tie
 
-add-stress : tie.Need-add-stress
-add-stress c = search needs
+add-risen : tie.Need-add-risen
+add-risen c = search needs
 
 mul-if1 : tie.Need-mul-if1
 mul-if1 c = search needs
@@ -28,4 +28,4 @@ returns-2 c =
     passes-limit (args .number) (args .ultimate-strength) (args .stress) (args .gain) (omega arith)
 
 pub lifted-spec : {M : Type 1} → statement M
-lifted-spec = tie.close (tie.spec add-stress mul-if1 mul-if1-2 mul-if1-3 returns returns-2)
+lifted-spec = tie.close (tie.spec add-risen mul-if1 mul-if1-2 mul-if1-3 returns returns-2)
