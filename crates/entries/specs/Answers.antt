@@ -1,5 +1,6 @@
 -- The promise rests on it. What an entry answers, and what it leaves of the lent buffers: document 01, "The card" and the last lines of
--- "Refusal by place of checking", and document 02, W1. "For an answer that is an enum, a definition gives this paper's number and values for each case."
+-- "Refusal by place of checking", and document 02, W1. "For an answer that is an enum, a definition gives this paper's number and values
+-- for each case."
 use mathlib.Core.Path.{_≡_}
 use mathlib.Core.Bool.{Bool, true, false, not}
 use Prim.Native.Nat.{ℕ}
