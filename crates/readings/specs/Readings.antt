@@ -86,6 +86,13 @@ withGain strength moment =
     ((2 ∷ 1 ∷ strength ∷ 60000 ∷ 0 ∷ 0 ∷ 102400 ∷ []) ∷ (2 ∷ 1 ∷ 20000000 ∷ 8000000 ∷ 8000000 ∷ 3072 ∷ [])
     ∷ (131072 ∷ 1048576 ∷ 1024 ∷ 1024 ∷ 0 ∷ []) ∷ line4 0 0 0 3 ∷ (744 ∷ moment ∷ []) ∷ (8784 ∷ 0 ∷ []) ∷ (438000 ∷ 0 ∷ []) ∷ [])
 
+-- after the first age's gain: 0.80 F to the tick, and a tick above it
+abbrev pub reaching : List ℕ
+reaching = withGain 150005 28603053056
+
+abbrev pub passing : List ℕ
+passing = withGain 150000 28601375744
+
 -- ---- what a card gives
 
 -- with room for so many numbers in report and scratch
@@ -144,6 +151,20 @@ row2 = record { creep = 3074075; shrinkage = 5812223; relaxation = 572430; stres
 abbrev pub row3 : Row
 row3 = record { creep = 1865515; shrinkage = 1849344; relaxation = 815347; stress = 91437232; gain = 0 }
 
+-- "It prints friction, slip, deflector, early relaxation, shortening, stress; then age number, hour, creep, shrinkage, relaxation,
+-- stress", and the gain "after the stress"
+abbrev pub lineBefore : BeforeAges → List ℕ
+lineBefore before =
+    before .friction ∷ before .slip ∷ before .deflector ∷ before .«early_relaxation» ∷ before .shortening ∷ before .stress ∷ []
+
+abbrev pub ageLine : ℕ → ℕ → Row → List ℕ
+ageLine number hour row =
+    number ∷ hour ∷ row .creep ∷ row .shrinkage ∷ row .relaxation ∷ row .stress ∷ row .gain ∷ []
+
+-- the first age of the card that reaches 0.80 F
+abbrev pub reached : Row
+reached = record { creep = 1769838; shrinkage = 4438425; relaxation = 858339; stress = 122884096; gain = 69831672 }
+
 -- ---- the other readings
 
 -- a reading of creep's clock
@@ -169,10 +190,7 @@ pub record Marked : Type 0 where
   pub sample-ages : agesRead (quantitiesRead (cardOutcome sample)) ≡ age 744 0 ∷ age 8784 0 ∷ age 438000 0 ∷ []
   pub sample-result : resultOfCard sample 15 ≡ Gives (record { before = sampleBefore; rows = row1 ∷ row2 ∷ row3 ∷ []; last = 91437232 })
   pub sample-printed : reportText sample
-      ≡ linesOf
-      ((0 ∷ 0 ∷ 0 ∷ 0 ∷ 7228235 ∷ 115651765 ∷ []) ∷ (1 ∷ 744 ∷ 3026370 ∷ 5548031 ∷ 1651198 ∷ 105426166 ∷ 0 ∷ [])
-      ∷ (2 ∷ 8784 ∷ 3074075 ∷ 5812223 ∷ 572430 ∷ 95967438 ∷ 0 ∷ [])
-      ∷ (3 ∷ 438000 ∷ 1865515 ∷ 1849344 ∷ 815347 ∷ 91437232 ∷ 0 ∷ []) ∷ [])
+      ≡ linesOf (lineBefore sampleBefore ∷ ageLine 1 744 row1 ∷ ageLine 2 8784 row2 ∷ ageLine 3 438000 row3 ∷ [])
   -- "L(1)=0, L(2)=77, L(9)=244, L(10)=256, L(18)=321, L(720)=731"
   pub L1 : logarithm 1 ≡ 0
   pub L2 : logarithm 2 ≡ 77
@@ -206,11 +224,10 @@ pub record Marked : Type 0 where
   pub ages-65 : numberAndPlace (resultOfCard (withAges 65) 325) ≡ 2 ∷ 24 ∷ []
   -- document 02, W1: "11 when the stress after a gain passes 0.80 F". To the tick it passes, "after the stress" stands the gain; a tick
   -- above it is refused at age 1
-  pub gain-reaches : 100 * 122884096 ≡ 80 * 150005 * 1024
-  pub gain-reaches-passes : reportText (withGain 150005 28603053056)
+  pub gain-reaches : 100 * reached .stress ≡ 80 * 150005 * 1024
+  pub gain-reaches-passes : reportText reaching
       ≡ linesOf
-      ((0 ∷ 0 ∷ 0 ∷ 0 ∷ 1320974 ∷ 60119026 ∷ []) ∷ (1 ∷ 744 ∷ 1769838 ∷ 4438425 ∷ 858339 ∷ 122884096 ∷ 69831672 ∷ [])
-      ∷ (2 ∷ 8784 ∷ 0 ∷ 4649779 ∷ 5220032 ∷ 113014285 ∷ 0 ∷ [])
+      ((0 ∷ 0 ∷ 0 ∷ 0 ∷ 1320974 ∷ 60119026 ∷ []) ∷ ageLine 1 744 reached ∷ (2 ∷ 8784 ∷ 0 ∷ 4649779 ∷ 5220032 ∷ 113014285 ∷ 0 ∷ [])
       ∷ (3 ∷ 438000 ∷ 0 ∷ 1479475 ∷ 6060330 ∷ 105474480 ∷ 0 ∷ []) ∷ [])
-  pub gain-above : 100 * firstLiftedOf (withGain 150000 28601375744) ≡ 80 * 150000 * 1024 + 100
-  pub gain-above-refused : numberAndPlace (resultOfCard (withGain 150000 28601375744) 15) ≡ 11 ∷ 1 ∷ []
+  pub gain-above : 100 * firstLiftedOf passing ≡ 80 * 150000 * 1024 + 100
+  pub gain-above-refused : numberAndPlace (resultOfCard passing 15) ≡ 11 ∷ 1 ∷ []
