@@ -42,6 +42,10 @@ extern "C" {
 
 #define STRATELYN_TICKS_PER_PSI 1024
 
+/* What a card's blank slip field reads, in ticks of 1/1024 inch: 3/8 inch. Older wedges draw in 1/4 inch, which a blank field once read:
+ * a yard that has them writes 256. */
+#define STRATELYN_BLANK_SLIP 384
+
 /* Each function uses less than this much stack; hosts/c/stack.c measures it. */
 #define STRATELYN_MOST_STACK_BYTES 32768
 

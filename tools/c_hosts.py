@@ -68,7 +68,7 @@ def header_sizes():
 
 
 def hold_sizes(checks, longest):
-    """The header's sizes are those of the table of fields, of the longest card, and of the room of an age."""
+    """The header's numbers are those of the table of fields, of the longest card, and of the room of an age."""
     sizes = header_sizes()
     for name, due in (
         ("COLUMNS_PER_FIELD", paper.COLUMNS),
@@ -83,6 +83,7 @@ def hold_sizes(checks, longest):
         ("MOST_CARD_BYTES", len(longest)),
         ("MOST_LIST_BYTES", BYTES_OF_NUMBER * len(sum(layout.list_of(longest), []))),
         ("TICKS_PER_PSI", paper.TICKS),
+        ("BLANK_SLIP", paper.HEAD[paper.NUMBER["slip"] - 1].blank),
     ):
         checks.hold(sizes.get(name) == due, "STRATELYN_%s in include/stratelyn.h is %d" % (name, due))
 

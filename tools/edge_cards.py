@@ -26,6 +26,9 @@ PRE = POST._replace(
 # More than the longest card has bytes.
 MANY_SPACES = 8192
 
+# What older wedges draw in, and a blank slip read up to document 02's W2.
+OLDER_SLIP = 256
+
 
 def card(base, path=(), loads=AGES, /, **changes):
     """A card with a base's head, its counts those of path and loads, and then some fields changed."""
@@ -252,7 +255,7 @@ def with_columns(text, name, columns):
 def shape():
     good = card(POST)
     start = start_of("ultimate_strength")
-    yield "blank slip", with_columns(good, "slip", BLANK)
+    yield "slip %d, of older wedges" % OLDER_SLIP, card(POST, slip=OLDER_SLIP)
     yield "blank deflector loss", with_columns(good, "deflector_loss", BLANK)
     yield "no byte", b""
     yield "a line feed more", good + LINE_FEED
@@ -306,7 +309,20 @@ def gains():
     yield "a rise of g whose product with Es passes 64 bits", loaded(slender, 2**38)
 
 
-PARTS = (ranges, counts, codes, segments, moments, hours, duct, section_and_creep, stress, long_cards, shape, gains)
+def blank_slips():
+    blank = lambda base: with_columns(card(base), "slip", BLANK)
+    reads = field_of("slip").blank
+    yield "blank slip", blank(POST)
+    yield "slip %d, as a blank one reads" % reads, card(POST, slip=reads)
+    # The most jacking stress of which a blank slip leaves too little, and older wedges enough.
+    short = POST._replace(length=12800)
+    before, _ = run(short._replace(slip=reads), [], AGES)
+    weak = short._replace(jacking_stress=(LEAST_STRESS + before.slip - 1) // TICKS)
+    yield "stress under %d psi by a blank slip" % (LEAST_STRESS // TICKS), blank(weak)
+    yield "slip %d of the same, enough stress left" % OLDER_SLIP, card(weak, slip=OLDER_SLIP)
+
+
+PARTS = (ranges, counts, codes, segments, moments, hours, duct, section_and_creep, stress, long_cards, shape, gains, blank_slips)
 
 
 def cases():

@@ -67,7 +67,7 @@ LINES = (
         Field("ultimate_strength", 100000, 300000),
         Field("jacking_stress", 1000, lambda head: head.ultimate_strength * 4 // 5),
         Field("deflector_loss", 0, lambda head: 20000 if head.kind == PRETENSIONED else 0),
-        Field("slip", 0, 2048, ticks=True, blank=256),
+        Field("slip", 0, 2048, ticks=True, blank=384),
         Field("length", 1024, 2097152, ticks=True),
     ),
     (

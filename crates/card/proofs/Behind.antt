@@ -9,7 +9,7 @@ use lib.Dec.{ltb}
 use lib.ListN.{length, length-drop}
 use borrow.Author.Tests.{ltb-false}
 use Rattle.fields.specs.Quantities.{firstSegmentField}
-use Rattle.fields.specs.Limits.{mostSegments, agesOutOfRange}
+use Rattle.fields.specs.Limits.{blankSlip, mostSegments, agesOutOfRange}
 use Rattle.fields.proofs.Laws.{ages-in-range}
 use Rattle.line.specs.declared.MayBeBlank.{MayBeBlank}
 use Rattle.line.specs.Lines.{Lines, firstWrong}
@@ -73,4 +73,4 @@ module _ (blank : MayBeBlank) (front back : List ℕ) (more : mostBytes < length
 
 pub behind : (front back : List ℕ) → mostBytes < length front → cardOutcome (front ++ back) ≡ cardOutcome front
 unfolding cardOutcome
-behind front back more = same-outcome slipMayBeBlank front back more
+behind front back more = same-outcome (slipMayBeBlank blankSlip) front back more

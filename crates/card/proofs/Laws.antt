@@ -156,8 +156,8 @@ module _ (blank : MayBeBlank) (card : List ℕ) where
 pub card-accepted : (card : List ℕ) (segments ages : ℕ) → cardOutcome card .reading ≡ Fields segments ages
     → Accepted (cardOutcome card .numbers) segments ages
 unfolding cardOutcome
-card-accepted card = accepted-by slipMayBeBlank card (only-below (fieldNumber .slip) blankSlip (lit< tt))
+card-accepted card = accepted-by (slipMayBeBlank blankSlip) card (only-below (fieldNumber .slip) blankSlip (lit< tt))
 
 pub card-fits : (card : List ℕ) (segments ages : ℕ) → cardOutcome card .reading ≡ Fields segments ages → length card ≤ mostBytes
 unfolding cardOutcome
-card-fits card = fits-by slipMayBeBlank card
+card-fits card = fits-by (slipMayBeBlank blankSlip) card

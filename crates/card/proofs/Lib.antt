@@ -1,3 +1,4 @@
 pub mod Laws
 pub mod Behind
+pub mod Slip
 mod Outcome

@@ -11,9 +11,9 @@ use Rattle.fields.specs.Outcomes.{Outcome, refused, accepted}
 use Rattle.line.specs.declared.MayBeBlank.{MayBeBlank}
 use Rattle.line.specs.Lines.{Lines, readLines, firstWrong}
 
--- "A blank slip field reads 256 ticks; no other field may be blank."
-abbrev pub slipMayBeBlank : MayBeBlank
-slipMayBeBlank = MayBeBlank.Only (fieldNumber .slip) blankSlip
+-- "A blank slip field" reads so many ticks; "no other field may be blank."
+abbrev pub slipMayBeBlank : ℕ → MayBeBlank
+slipMayBeBlank reads = MayBeBlank.Only (fieldNumber .slip) reads
 
 -- "Line 1" to "Line 4"
 abbrev pub headLines : List ℕ
@@ -72,4 +72,4 @@ outcomeOf blank card =
 -- What a card gives.
 unfoldable pub cardOutcome : List ℕ → Outcome
 unfolding outcomeOf
-cardOutcome card = outcomeOf slipMayBeBlank card
+cardOutcome card = outcomeOf (slipMayBeBlank blankSlip) card

@@ -1,2 +1,3 @@
 pub mod Card
+pub mod Slip
 pub mod Conditions

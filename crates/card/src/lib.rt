@@ -2,6 +2,7 @@
 ghost use mathlib.Core.Path.{_≡_};
 ghost use Prim.Native.Nat.{_≤_};
 ghost use lib.ListN.{length};
+ghost use Rattle.fields.specs.Limits.{blankSlip};
 ghost use Rattle.fields.specs.Sizes.{mostFields};
 ghost use Rattle.fields.specs.Outcomes.{over};
 ghost use Rattle.card.specs.Card.{slipMayBeBlank, announcedOf, lineBehind, outcomeOf, cardOutcome};
@@ -45,7 +46,7 @@ const SEGMENT_FIELD: usize = HEAD_FIELDS + 1;
 
 // A blank slip reads so many ticks, and no other field may be blank.
 fn slip_may_be_blank() -> MayBeBlank
-    ensures { λ r. ⌜ r ≡ slipMayBeBlank ⌝ }
+    ensures { λ r. ⌜ r ≡ slipMayBeBlank blankSlip ⌝ }
 {
     MayBeBlank::Only {
         field: SLIP,

@@ -62,9 +62,9 @@ range = record {
   ages = [];
 }
 
--- "A blank slip field reads 256 ticks"
+-- document 02, W2: "A blank slip field shall read 384 ticks", "3/8 inch"
 abbrev pub blankSlip : ℕ
-blankSlip = 256
+blankSlip = 384
 
 -- "Transfer lies in 72..960 if moist"
 abbrev pub leastMoistTransfer : ℕ

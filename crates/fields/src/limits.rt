@@ -28,8 +28,8 @@ pub const MOST_DEFLECTOR_LOSS: u64 = 20_000;
 
 pub const MOST_SLIP: u64 = 2_048;
 
-// What a blank slip field reads.
-pub const BLANK_SLIP: u64 = 256;
+// What a blank slip field reads: 3/8 inch.
+pub const BLANK_SLIP: u64 = 384;
 
 pub const LEAST_TENDON_LENGTH: u64 = 1_024;
 

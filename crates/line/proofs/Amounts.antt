@@ -27,7 +27,7 @@ unfolding amountsOf
 amounts-length blank zero field bytes = refl
 amounts-length blank (suc count) field bytes = ap suc (amounts-length blank count (suc field) (drop columns bytes))
 
-amounts-append : (blank : MayBeBlank) (a b field : ℕ) (bytes : List ℕ)
+pub amounts-append : (blank : MayBeBlank) (a b field : ℕ) (bytes : List ℕ)
     → amountsOf blank (a + b) field bytes ≡ amountsOf blank a field bytes ++ amountsOf blank b (field + a) (drop (columns * a) bytes)
 unfolding amountsOf
 amounts-append blank zero b field bytes = rw (zero-add, add-zero)

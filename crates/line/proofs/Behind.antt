@@ -36,7 +36,7 @@ no-rest lines behind some e = by-rest (ltb 0 (length (lines .rest))) refl
 
 -- ---- more bytes behind
 
-amounts-front : (blank : MayBeBlank) (back : List ℕ) (count field : ℕ) (front : List ℕ) → columns * count ≤ length front
+pub amounts-front : (blank : MayBeBlank) (back : List ℕ) (count field : ℕ) (front : List ℕ) → columns * count ≤ length front
     → amountsOf blank count field (front ++ back) ≡ amountsOf blank count field front
 unfolding amountsOf
 amounts-front blank back zero field front h = refl

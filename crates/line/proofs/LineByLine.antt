@@ -63,12 +63,12 @@ module _ (blank : MayBeBlank) (count : ℕ) (counts : List ℕ) (line field : �
   abbrev later : Lines
   later = readLines blank counts (suc line) (field + count) (drop (lineLength count) bytes)
 
-  first-right : isRight blank count field bytes ≡ true
+  pub first-right : isRight blank count field bytes ≡ true
       → all ≡ record { numbers = lineNumbers blank count field bytes ++ later .numbers; wrong = later .wrong; rest = later .rest }
   unfolding readLines
   first-right e = rw e
 
-  first-wrong : isRight blank count field bytes ≡ false
+  pub first-wrong : isRight blank count field bytes ≡ false
       → all ≡ record { numbers = lineNumbers blank count field bytes; wrong = line; rest = bytes }
   unfolding readLines
   first-wrong e = rw e

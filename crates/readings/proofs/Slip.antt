@@ -1,0 +1,59 @@
+-- The theorem `slip-as-before`. Each promise decides what a host sees, and speaks of a card by what it gives alone; so cards that give
+-- the same have the same run, and which do are the laws of `card`. Assumes nothing.
+use Prim.Native.Nat.{ℕ, _<_}
+use mathlib.Core.Path.{_≡_, refl, sym, ap, _∙_}
+use mathlib.Core.Bool.{Bool, true, false}
+use mathlib.Core.List.{List}
+use lib.Dec.{ltb}
+use lib.ListN.{length}
+use borrow.Author.Tests.{ltb-true, ltb-false}
+use Rattle.fields.specs.Limits.{blankSlip}
+use Rattle.fields.specs.Outcomes.{Outcome}
+use Rattle.line.specs.Lines.{digitsOf, spacesIn}
+use Rattle.card.specs.Card.{slipMayBeBlank, outcomeOf, cardOutcome}
+use Rattle.card.proofs.Slip.{written-slip, blank-slip}
+use Rattle.text.specs.Columns.{firstColumns, inColumns}
+use Rattle.stratelyn.specs.Hosts.{replyBytes, Served}
+use Rattle.readings.specs.Slip.{SameRun, SlipAsBefore}
+
+same-reply : (outcome : Outcome) (returned returned′ : ℕ)
+    (report report′ reportWas scratch scratch′ scratchWas reply reply′ replyWas : List ℕ)
+    → Served outcome returned report reportWas scratch scratchWas reply replyWas
+    → Served outcome returned′ report′ reportWas scratch′ scratchWas reply′ replyWas
+    → (returned ≡ returned′) × (report ≡ report′) × (reply ≡ reply′)
+same-reply outcome returned returned′ report report′ reportWas scratch scratch′ scratchWas reply reply′ replyWas one other =
+    by-room (ltb (length replyWas) replyBytes) refl
+  where
+    by-room : (short : Bool) → ltb (length replyWas) replyBytes ≡ short → (returned ≡ returned′) × (report ≡ report′) × (reply ≡ reply′)
+    by-room true e =
+        let h = ltb-true (length replyWas) replyBytes e in
+        let a = one .short h in
+        let b = other .short h in
+        (a .number-is ∙ sym (b .number-is), a .report-kept ∙ sym (b .report-kept), a .reply-kept ∙ sym (b .reply-kept))
+    by-room false e =
+        let h = ltb-false (length replyWas) replyBytes e in
+        let a = one .exact h in
+        let b = other .exact h in
+        (a .number-is ∙ sym (b .number-is), a .report-is ∙ sym (b .report-is), a .values-are ∙ sym (b .values-are))
+
+same-run : (one other : Outcome) → one ≡ other → SameRun one other
+same-run one other e =
+    rw e
+    (record {
+      read = refl;
+      native = λ answer answer′ report report′ reportWas scratch scratch′ scratchWas a b. (
+        a .exact .answered .number-is ∙ sym (b .exact .answered .number-is),
+        a .exact .answered .values-are ∙ sym (b .exact .answered .values-are),
+        a .exact .report-is ∙ sym (b .exact .report-is),
+      );
+      hosts = same-reply other;
+      printed = refl;
+    })
+
+pub slip-as-before : SlipAsBefore
+unfolding cardOutcome firstColumns digitsOf spacesIn
+slip-as-before = record {
+  written = λ before card written. same-run _ _ (written-slip before blankSlip card written);
+  blank = λ card blank. same-run _ _ (sym (blank-slip 384 blankSlip (inColumns 384) card blank refl refl));
+  older = λ card blank. same-run _ _ (blank-slip 256 blankSlip (inColumns 256) card blank refl refl);
+}
