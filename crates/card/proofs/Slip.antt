@@ -3,8 +3,8 @@
 -- is blank gives what it gives with that number written there. Assumes nothing.
 use mathlib.Core.Path.{_≡_, refl, sym, ap, _∙_}
 use mathlib.Core.Bool.{Bool, true, false, and-eq-true-iff}
-use mathlib.Core.List.{List, [], _∷_, _++_}
-use Prim.Native.Nat.{ℕ, suc, _+_, _-_, _*_, _≤_, _<_}
+use mathlib.Core.List.{List, _++_}
+use Prim.Native.Nat.{ℕ, suc, _+_, _-_, _*_, _≤_}
 use native.Mathlib.Omega.{arith}
 use lib.Dec.{leb, eqb}
 use lib.ListN.{length, getD, take, drop, replicate, length-take, length-drop, length-replicate, take-append-drop}
@@ -13,142 +13,149 @@ use borrow.Author.Tests.{leb-true}
 use Rattle.fields.specs.Quantities.{columns, fieldNumber, firstSegmentField}
 use Rattle.line.specs.declared.Field.the-variants.{Number, Blank}
 use Rattle.line.specs.declared.MayBeBlank.{MayBeBlank}
-use Rattle.line.specs.Lines.{space, lineFeed, spacesIn, fieldOf, amountOf, amountsOf, lineLength, isShaped, isRight, lineNumbers, Lines}
+use Rattle.line.specs.Lines.{space, lineFeed, spacesIn, fieldOf, amountOf, amountsOf, lineLength, isShaped, isRight, lineNumbers}
 use Rattle.line.proofs.LineByLine.{first-right, first-wrong}
-use Rattle.line.proofs.Blank.{amounts-elsewhere, lines-elsewhere, written-amount, amounts-parts, drop-parts, shaped-parts}
-use Rattle.card.specs.Card.{slipMayBeBlank, head, firstSegmentLine, announcedLines, segmentsIn, agesIn, outcomeOf}
+use Rattle.line.proofs.Blank.{amounts-elsewhere, lines-elsewhere, written-amount, amounts-parts, rest-parts, shaped-parts}
+use Rattle.card.specs.Card.{slipMayBeBlank, headLines, head, firstSegmentLine, announcedLines, segmentsIn, agesIn, outcomeOf}
 use Rattle.card.specs.Slip.{slipColumn, slipColumns, SlipIsBlank, withSlip}
 
--- ---- line 1: the fields before the slip, the slip, and one behind it
+-- ---- line 1: fields before the slip, the slip, and fields behind it; and the lines up to the fourth
 
-abbrev slip : ℕ
-slip = fieldNumber .slip
-
-abbrev before : ℕ
-before = slip - 1
-
-abbrev behind : ℕ
-behind = 1
+abbrev slipField : ℕ
+slipField = fieldNumber .slip
 
 abbrev onLine1 : ℕ
-onLine1 = before + suc behind
+onLine1 = getD headLines 0 0
+
+abbrev before : ℕ
+before = slipField - 1
+
+abbrev behind : ℕ
+behind = onLine1 - slipField
 
 abbrev laterLines : List ℕ
-laterLines = 6 ∷ 5 ∷ 6 ∷ []
+laterLines = drop 1 headLines
 
 -- where line 1 is wrong, it decides
-wrong-line-1 : (one other : MayBeBlank) (card card′ : List ℕ) → isRight one onLine1 1 card ≡ false → isRight other onLine1 1 card′ ≡ false
-    → lineNumbers one onLine1 1 card ≡ lineNumbers other onLine1 1 card′ → outcomeOf one card ≡ outcomeOf other card′
+wrong-line-1 : (blank blank′ : MayBeBlank) (card card′ : List ℕ)
+    → isRight blank onLine1 1 card ≡ false → isRight blank′ onLine1 1 card′ ≡ false
+    → lineNumbers blank onLine1 1 card ≡ lineNumbers blank′ onLine1 1 card′ → outcomeOf blank card ≡ outcomeOf blank′ card′
 unfolding outcomeOf
-wrong-line-1 one other card card′ e e′ numbers =
-    rw (first-wrong one onLine1 laterLines 1 1 card e, first-wrong other onLine1 laterLines 1 1 card′ e′, numbers)
+wrong-line-1 blank blank′ card card′ wrong wrong′ numbers =
+    rw (first-wrong blank onLine1 laterLines 1 1 card wrong, first-wrong blank′ onLine1 laterLines 1 1 card′ wrong′, numbers)
 
 -- ---- two cards that differ in the slip's columns alone, and there not in what the slip reads
 
-module _ (reads other : ℕ) (front one two back : List ℕ) (at-slip : length front ≡ slipColumn)
-    (one-filled : length one ≡ columns) (two-filled : length two ≡ columns)
-    (same : amountOf (slipMayBeBlank reads) slip (fieldOf one) ≡ amountOf (slipMayBeBlank other) slip (fieldOf two)) where
-  abbrev first : List ℕ
-  first = front ++ (one ++ back)
+module _ (reads reads′ : ℕ) (front slip slip′ back : List ℕ) (at-slip : length front ≡ slipColumn)
+    (filled : length slip ≡ columns) (filled′ : length slip′ ≡ columns)
+    (same : amountOf (slipMayBeBlank reads) slipField (fieldOf slip) ≡ amountOf (slipMayBeBlank reads′) slipField (fieldOf slip′)) where
+  abbrev blank : MayBeBlank
+  blank = slipMayBeBlank reads
 
-  abbrev second : List ℕ
-  second = front ++ (two ++ back)
+  abbrev blank′ : MayBeBlank
+  blank′ = slipMayBeBlank reads′
 
-  same-amounts : amountsOf (slipMayBeBlank reads) onLine1 1 first ≡ amountsOf (slipMayBeBlank other) onLine1 1 second
+  abbrev card : List ℕ
+  card = front ++ (slip ++ back)
+
+  abbrev card′ : List ℕ
+  card′ = front ++ (slip′ ++ back)
+
+  same-shape : isShaped onLine1 card ≡ isShaped onLine1 card′
+  same-shape =
+      shaped-parts front slip back before behind at-slip filled ∙ sym (shaped-parts front slip′ back before behind at-slip filled′)
+
+  same-amounts : amountsOf blank onLine1 1 card ≡ amountsOf blank′ onLine1 1 card′
   same-amounts =
-      amounts-parts front one back before behind at-slip one-filled (slipMayBeBlank reads) 1
+      amounts-parts front slip back before behind at-slip filled blank 1
       ∙ rw (
-        amounts-elsewhere slip reads other before 1 front (λ k h e. omega arith),
+        amounts-elsewhere slipField reads reads′ before 1 front (λ k h e. omega arith),
         same,
-        amounts-elsewhere slip reads other behind (suc slip) back (λ k h e. omega arith),
+        amounts-elsewhere slipField reads reads′ behind (suc slipField) back (λ k h e. omega arith),
       )
-      (sym (amounts-parts front two back before behind at-slip two-filled (slipMayBeBlank other) 1))
+      (sym (amounts-parts front slip′ back before behind at-slip filled′ blank′ 1))
 
-  same-right : isRight (slipMayBeBlank reads) onLine1 1 first ≡ isRight (slipMayBeBlank other) onLine1 1 second
-  same-right =
-      rw (
-        shaped-parts front one back before behind at-slip one-filled,
-        shaped-parts front two back before behind at-slip two-filled,
-        same-amounts,
-      )
+  same-numbers : lineNumbers blank onLine1 1 card ≡ lineNumbers blank′ onLine1 1 card′
+  same-numbers = rw (same-shape, same-amounts)
 
-  same-numbers : lineNumbers (slipMayBeBlank reads) onLine1 1 first ≡ lineNumbers (slipMayBeBlank other) onLine1 1 second
-  same-numbers =
-      rw (
-        shaped-parts front one back before behind at-slip one-filled,
-        shaped-parts front two back before behind at-slip two-filled,
-        same-amounts,
-      )
+  same-right : isRight blank onLine1 1 card ≡ isRight blank′ onLine1 1 card′
+  same-right = rw (same-shape, same-amounts)
 
-  same-head : isRight (slipMayBeBlank other) onLine1 1 second ≡ true
-      → head (slipMayBeBlank reads) first ≡ head (slipMayBeBlank other) second
+  same-rest : drop (lineLength onLine1) card ≡ drop (lineLength onLine1) card′
+  same-rest =
+      rest-parts front slip back before behind at-slip filled ∙ sym (rest-parts front slip′ back before behind at-slip filled′)
+
+  same-head : isRight blank′ onLine1 1 card′ ≡ true → head blank card ≡ head blank′ card′
   same-head right =
-      first-right (slipMayBeBlank reads) onLine1 laterLines 1 1 first (same-right ∙ right)
+      first-right blank onLine1 laterLines 1 1 card (same-right ∙ right)
       ∙ rw (
         same-numbers,
-        drop-parts front one back before behind at-slip one-filled (lineLength behind),
-        lines-elsewhere slip reads other laterLines 2 (1 + onLine1) (drop (lineLength behind) back) (omega arith),
-        sym (drop-parts front two back before behind at-slip two-filled (lineLength behind)),
+        same-rest,
+        lines-elsewhere slipField reads reads′ laterLines 2 (1 + onLine1) (drop (lineLength onLine1) card′) (omega arith),
       )
-      (sym (first-right (slipMayBeBlank other) onLine1 laterLines 1 1 second right))
+      (sym (first-right blank′ onLine1 laterLines 1 1 card′ right))
 
-  slip-alone : outcomeOf (slipMayBeBlank reads) first ≡ outcomeOf (slipMayBeBlank other) second
+  slip-alone : outcomeOf blank card ≡ outcomeOf blank′ card′
   unfolding outcomeOf
-  slip-alone = by-line (isRight (slipMayBeBlank other) onLine1 1 second) refl
+  slip-alone = by-line (isRight blank′ onLine1 1 card′) refl
     where
-      by-line : (right : Bool) → isRight (slipMayBeBlank other) onLine1 1 second ≡ right
-          → outcomeOf (slipMayBeBlank reads) first ≡ outcomeOf (slipMayBeBlank other) second
-      by-line true e =
-          let rest = head (slipMayBeBlank other) second in
+      by-line : (right : Bool) → isRight blank′ onLine1 1 card′ ≡ right → outcomeOf blank card ≡ outcomeOf blank′ card′
+      by-line true right =
+          let read = head blank′ card′ in
+          let announced = announcedLines (segmentsIn (read .numbers)) (agesIn (read .numbers)) in
           rw (
-            same-head e,
-            lines-elsewhere slip reads other (announcedLines (segmentsIn (rest .numbers)) (agesIn (rest .numbers))) firstSegmentLine
-                firstSegmentField (rest .rest) (omega arith),
+            same-head right,
+            lines-elsewhere slipField reads reads′ announced firstSegmentLine firstSegmentField (read .rest) (omega arith),
           )
-      by-line false e =
-          wrong-line-1 (slipMayBeBlank reads) (slipMayBeBlank other) first second (same-right ∙ e) e same-numbers
+      by-line false wrong = wrong-line-1 blank blank′ card card′ (same-right ∙ wrong) wrong same-numbers
+
+-- ---- a card that reaches behind its slip
+
+module _ (card : List ℕ) (long : slipColumn + columns ≤ length card) where
+  own-slip : withSlip (slipColumns card) card ≡ card
+  own-slip =
+      rw (sym (drop-drop columns slipColumn card), take-append-drop columns (drop slipColumn card)) (take-append-drop slipColumn card)
+
+  front-length : length (take slipColumn card) ≡ slipColumn
+  front-length = length-take-le slipColumn card (omega arith)
+
+  slip-length : length (slipColumns card) ≡ columns
+  slip-length = length-take-le columns (drop slipColumn card) (omega (arith, length-drop slipColumn card))
+
+  with-slip : (reads reads′ : ℕ) (slip′ : List ℕ) → length slip′ ≡ columns
+      → amountOf (slipMayBeBlank reads) slipField (fieldOf (slipColumns card)) ≡ amountOf (slipMayBeBlank reads′) slipField (fieldOf slip′)
+      → outcomeOf (slipMayBeBlank reads) card ≡ outcomeOf (slipMayBeBlank reads′) (withSlip slip′ card)
+  with-slip reads reads′ slip′ filled′ same =
+      ap (outcomeOf (slipMayBeBlank reads)) (sym own-slip)
+      ∙ slip-alone reads reads′ (take slipColumn card) (slipColumns card) slip′ (drop (slipColumn + columns) card) front-length
+      slip-length filled′ same
 
 -- ---- the laws
 
--- a card that reaches behind its slip is the one with its own slip
-own-slip : (card : List ℕ) → slipColumn + columns ≤ length card → withSlip (slipColumns card) card ≡ card
-own-slip card long =
-    rw (sym (drop-drop columns slipColumn card), take-append-drop columns (drop slipColumn card)) (take-append-drop slipColumn card)
-
-own-front : (card : List ℕ) → slipColumn + columns ≤ length card → length (take slipColumn card) ≡ slipColumn
-own-front card long = length-take-le slipColumn card (omega arith)
-
-own-columns : (card : List ℕ) → slipColumn + columns ≤ length card → length (slipColumns card) ≡ columns
-own-columns card long = length-take-le columns (drop slipColumn card) (omega (arith, length-drop slipColumn card))
-
-pub written-slip : (reads other : ℕ) (card : List ℕ) → (SlipIsBlank card → ⊥)
-    → outcomeOf (slipMayBeBlank reads) card ≡ outcomeOf (slipMayBeBlank other) card
-written-slip reads other card written = by-shape (isShaped onLine1 card) refl
+pub written-slip : (reads reads′ : ℕ) (card : List ℕ) → (SlipIsBlank card → ⊥)
+    → outcomeOf (slipMayBeBlank reads) card ≡ outcomeOf (slipMayBeBlank reads′) card
+written-slip reads reads′ card written = by-shape (isShaped onLine1 card) refl
   where
     by-shape : (shaped : Bool) → isShaped onLine1 card ≡ shaped
-        → outcomeOf (slipMayBeBlank reads) card ≡ outcomeOf (slipMayBeBlank other) card
+        → outcomeOf (slipMayBeBlank reads) card ≡ outcomeOf (slipMayBeBlank reads′) card
     by-shape true e =
         let ended = and-eq-true-iff (leb (lineLength onLine1) (length card)) (eqb (getD card (columns * onLine1) 0) lineFeed) .0 e in
         let all = leb-true (lineLength onLine1) (length card) (ended .0) in
         let long : slipColumn + columns ≤ length card = omega arith in
-        let filled = own-columns card long in
-        let amount = written-amount (slipMayBeBlank reads) (slipMayBeBlank other) slip (slipColumns card)
-        (λ blank. written (blank ∙ ap (λ (n : ℕ). replicate n space) filled)) in
-        rw (own-slip card long) at
-        (slip-alone reads other (take slipColumn card) (slipColumns card) (slipColumns card) (drop (slipColumn + columns) card)
-        (own-front card long) filled filled amount)
-    by-shape false e = wrong-line-1 (slipMayBeBlank reads) (slipMayBeBlank other) card card (rw e) (rw e) (rw e)
+        let filled = slip-length card long in
+        with-slip card long reads reads′ (slipColumns card) filled
+        (written-amount (slipMayBeBlank reads) (slipMayBeBlank reads′) slipField (slipColumns card)
+        (λ spaces. written (spaces ∙ ap (λ (n : ℕ). replicate n space) filled)))
+        ∙ ap (outcomeOf (slipMayBeBlank reads′)) (own-slip card long)
+    by-shape false e = wrong-line-1 (slipMayBeBlank reads) (slipMayBeBlank reads′) card card (rw e) (rw e) (rw e)
 
 blank-field : fieldOf (replicate columns space) ≡ Blank
 unfolding spacesIn
 blank-field = refl
 
-pub blank-slip : (reads other : ℕ) (slip′ card : List ℕ) → SlipIsBlank card → length slip′ ≡ columns → fieldOf slip′ ≡ Number reads
-    → outcomeOf (slipMayBeBlank reads) card ≡ outcomeOf (slipMayBeBlank other) (withSlip slip′ card)
-blank-slip reads other slip′ card blank filled is =
+pub blank-slip : (reads reads′ : ℕ) (slip′ card : List ℕ) → SlipIsBlank card → length slip′ ≡ columns → fieldOf slip′ ≡ Number reads
+    → outcomeOf (slipMayBeBlank reads) card ≡ outcomeOf (slipMayBeBlank reads′) (withSlip slip′ card)
+blank-slip reads reads′ slip′ card blank filled′ is =
     let taken = sym (length-take columns (drop slipColumn card)) ∙ ap length blank ∙ length-replicate columns space in
     let left = length-drop slipColumn card in
-    let long : slipColumn + columns ≤ length card = omega arith in
-    rw (own-slip card long) at
-    (slip-alone reads other (take slipColumn card) (slipColumns card) slip′ (drop (slipColumn + columns) card) (own-front card long)
-    (own-columns card long) filled (rw (blank, blank-field, is)))
+    with-slip card (omega arith) reads reads′ slip′ filled′ (rw (blank, blank-field, is))

@@ -4,19 +4,18 @@
 use mathlib.Core.Path.{_≡_, refl, sym, ap, _∙_}
 use mathlib.Core.Bool.{Bool, true, false, cond}
 use mathlib.Core.List.{List, [], _∷_, _++_}
-use Prim.Native.Nat.{ℕ, zero, suc, _+_, _-_, _*_, _≤_, _<_}
+use Prim.Native.Nat.{ℕ, zero, suc, _+_, _-_, _*_, _<_}
 use native.Mathlib.Omega.{arith}
 use lib.Dec.{leb, eqb}
-use lib.ListN.{length, getD, take, drop, replicate, length-append}
+use lib.ListN.{length, take, drop, replicate, length-append}
 use lib.Seq.{take-append-seam, drop-append-seam, drop-append-add, getD-append-add}
 use borrow.Author.Tests.{eqb-true, ne-eqb, leb-true, leb-false, le-leb, lt-leb}
-use Rattle.ticks.specs.declared.Amount.{Amount}
 use Rattle.line.specs.declared.Field.{Field}
 use Rattle.line.specs.declared.Field.the-variants.{Number, Blank, Wrong}
 use Rattle.line.specs.declared.MayBeBlank.{MayBeBlank}
 use Rattle.line.specs.declared.MayBeBlank.the-variants.{Only}
 use Rattle.fields.specs.Quantities.{columns}
-use Rattle.line.specs.Lines.{space, zeroDigit, isDigit, digitsOf, spacesIn, fieldOf, blankReads, amountOf, amountsOf, lineLength}
+use Rattle.line.specs.Lines.{space, zeroDigit, isDigit, digitsOf, spacesIn, fieldOf, amountOf, amountsOf, lineLength}
 use Rattle.line.specs.Lines.{isShaped, readLines}
 use Rattle.line.proofs.Amounts.{amounts-append}
 use Rattle.line.proofs.Behind.{amounts-front}
@@ -87,14 +86,14 @@ written-amount one other field bytes written = by-spaces (eqb (spacesIn bytes) (
     by-spaces true q = absurd (written (all-spaces bytes (eqb-true (spacesIn bytes) (length bytes) q)))
     by-spaces false q = rw q (digits-amount one other field 0 (drop (spacesIn bytes) bytes))
 
+-- ---- a line taken apart: `count` fields, one more, and `more` behind it
+
 same-test : (a b c d : ℕ) → a + d ≡ b + c → leb a b ≡ leb c d
 same-test a b c d apart = by-test (leb c d) refl
   where
     by-test : (test : Bool) → leb c d ≡ test → leb a b ≡ test
     by-test true e = let h = leb-true c d e in le-leb a b (omega arith)
     by-test false e = let h = leb-false c d e in lt-leb a b (omega arith)
-
--- ---- a line taken apart: `count` fields, one more, and `more` behind it
 
 module _ (front mid back : List ℕ) (count more : ℕ) (before : length front ≡ columns * count) (filled : length mid ≡ columns) where
   abbrev line : List ℕ
@@ -115,10 +114,10 @@ module _ (front mid back : List ℕ) (count more : ℕ) (before : length front �
         drop-append-seam mid back,
       )
 
-  pub drop-parts : (n : ℕ) → drop (columns * (count + 1) + n) line ≡ drop n back
-  drop-parts n =
-      let at : columns * (count + 1) + n ≡ length front + (length mid + n) = omega arith in
-      rw (at, drop-append-add front (mid ++ back) (length mid + n), drop-append-add mid back n)
+  pub rest-parts : drop (lineLength (count + suc more)) line ≡ drop (lineLength more) back
+  rest-parts =
+      let at : lineLength (count + suc more) ≡ length front + (length mid + lineLength more) = omega arith in
+      rw (at, drop-append-add front (mid ++ back) (length mid + lineLength more), drop-append-add mid back (lineLength more))
 
   pub shaped-parts : isShaped (count + suc more) line ≡ isShaped more back
   shaped-parts =

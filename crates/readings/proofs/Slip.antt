@@ -1,7 +1,7 @@
 -- The theorem `slip-as-before`. Each promise decides what a host sees, and speaks of a card by what it gives alone; so cards that give
 -- the same have the same run, and which do are the laws of `card`. Assumes nothing.
-use Prim.Native.Nat.{ℕ, _<_}
-use mathlib.Core.Path.{_≡_, refl, sym, ap, _∙_}
+use Prim.Native.Nat.{ℕ}
+use mathlib.Core.Path.{_≡_, refl, sym, _∙_}
 use mathlib.Core.Bool.{Bool, true, false}
 use mathlib.Core.List.{List}
 use lib.Dec.{ltb}
@@ -10,7 +10,7 @@ use borrow.Author.Tests.{ltb-true, ltb-false}
 use Rattle.fields.specs.Limits.{blankSlip}
 use Rattle.fields.specs.Outcomes.{Outcome}
 use Rattle.line.specs.Lines.{digitsOf, spacesIn}
-use Rattle.card.specs.Card.{slipMayBeBlank, outcomeOf, cardOutcome}
+use Rattle.card.specs.Card.{cardOutcome}
 use Rattle.card.proofs.Slip.{written-slip, blank-slip}
 use Rattle.text.specs.Columns.{firstColumns, inColumns}
 use Rattle.stratelyn.specs.Hosts.{replyBytes, Served}
@@ -54,6 +54,6 @@ pub slip-as-before : SlipAsBefore
 unfolding cardOutcome firstColumns digitsOf spacesIn
 slip-as-before = record {
   written = λ before card written. same-run _ _ (written-slip before blankSlip card written);
-  blank = λ card blank. same-run _ _ (sym (blank-slip 384 blankSlip (inColumns 384) card blank refl refl));
+  blank = λ card blank. same-run _ _ (sym (blank-slip blankSlip blankSlip (inColumns blankSlip) card blank refl refl));
   older = λ card blank. same-run _ _ (blank-slip 256 blankSlip (inColumns 256) card blank refl refl);
 }
