@@ -1,11 +1,12 @@
 //! The core against the papers' method as the tests write it, on random inputs: good members, edges of every range, damaged bytes,
-//! NaN payloads, odd lengths, short buffers. Every byte of reply, report and scratch is compared.
+//! NaN payloads, odd lengths, short buffers. Every byte of reply, report and scratch is compared. And cards with a blank slip, against the
+//! same cards that write it.
 
 mod paper;
 
 use paper::Field::*;
 use paper::{age, head_lines, in_ticks, read_card, read_list, refused, segment, Field, Paper, Reading, Refusal, Run};
-use paper::{ACCELERATED, AGE_FIELDS, BEND, CODES, COLUMNS, FIRST_CODE, HEAD_FIELDS, LAST_CODE, LEAST_AGES, LEAST_TRANSFER};
+use paper::{ACCELERATED, AGE_FIELDS, BEND, BLANK_SLIP, CODES, COLUMNS, FIRST_CODE, HEAD_FIELDS, LAST_CODE, LEAST_AGES, LEAST_TRANSFER};
 use paper::{LEAST_TRANSFER_IF_MOIST, LIFE, MOIST, MOST_AGES, MOST_CURING_IF_MOIST, MOST_SEGMENTS, MOST_STRENGTH, MOST_TRANSFER};
 use paper::{PARABOLA, POST_TENSIONED, PRETENSIONED, RANGES, ROW_NUMBERS, SCRATCH_NUMBERS_OF_AGE, SEGMENT_FIELDS, STRAIGHT, TICKS};
 use stratelyn::REPLY_BYTES;
@@ -18,6 +19,9 @@ const ANSWERS: usize = refused::LAST as usize + 1;
 
 /// Each answer comes up at least so often.
 const LEAST_COUNT: usize = 50;
+
+/// The slip of older wedges, which a blank field read before document 02's W2.
+const OLDER_SLIP: u64 = 256;
 
 /// Numbers that look random, from a fixed seed.
 struct Random(u64);
@@ -251,6 +255,7 @@ fn numbers(list: &[u64]) -> Vec<u8> {
     list.iter().flat_map(|n| n.to_le_bytes()).collect()
 }
 
+#[derive(Debug, PartialEq)]
 struct Buffers {
     report: Vec<u8>,
     scratch: Vec<u8>,
@@ -377,4 +382,32 @@ fn lists() {
     run_cases(0x5EED_0002_1157, None, input, |list, now| {
         stratelyn::run_list_bytes(list, &mut now.report, &mut now.scratch, &mut now.reply)
     });
+}
+
+/// What a card with these columns for its slip returns, and what it leaves in the buffers.
+fn run_with_slip(card: &[u8], slip: String, was: &Buffers) -> (u64, Buffers) {
+    let start = COLUMNS * Slip.at();
+    let card = [&card[..start], slip.as_bytes(), &card[start + COLUMNS..]].concat();
+    let mut now = copy(was);
+    (stratelyn::run_card_bytes(&card, &mut now.report, &mut now.scratch, &mut now.reply), now)
+}
+
+/// A blank slip gives what its number of ticks gives where it is written, and at times not what older wedges give: other losses, or 7.
+#[test]
+fn blank_slips() {
+    let written = |slip: u64| format!("{slip:COLUMNS$}");
+    let mut r = Random(0x5EED_0003_511B);
+    let (mut other_losses, mut too_little) = (0, 0);
+    for case in 0..CASES {
+        let f = member(&mut r);
+        let card = lines_of(&mut r, &f).into_bytes();
+        let was = Buffers::new(&mut r, f[Ages.at()]);
+        let blank = run_with_slip(&card, " ".repeat(COLUMNS), &was);
+        assert_eq!(blank, run_with_slip(&card, written(BLANK_SLIP), &was), "case {case}");
+        let older = run_with_slip(&card, written(OLDER_SLIP), &was);
+        other_losses += usize::from(blank.0 == 0 && older.0 == 0 && blank != older);
+        too_little += usize::from(blank.0 == refused::STRESS && older.0 == 0);
+    }
+    println!("blank slips: other losses than older wedges' {other_losses}, 7 where these pass {too_little}");
+    assert!(other_losses.min(too_little) >= LEAST_COUNT, "other losses came up {other_losses} times, 7 {too_little} times");
 }

@@ -136,7 +136,7 @@ const IN_TICKS: [Field; 8] = [Slip, Length, VolumeToSurface, Area, Inertia, Ecce
 
 /// Columns of a card's field, and what a blank slip reads.
 pub const COLUMNS: usize = 14;
-const BLANK_SLIP: u64 = 384;
+pub const BLANK_SLIP: u64 = 384;
 
 /// How many fields each line of the head has.
 pub fn head_lines() -> [usize; HEAD_LINES] {
