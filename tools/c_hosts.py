@@ -1,5 +1,5 @@
 """What the C hosts take from tools/paper.py: the members that they run, the text that hosts/c/example.c must print, and the header's
-sizes.
+numbers.
 """
 import re
 from pathlib import Path
@@ -59,17 +59,17 @@ def example_text(card):
     return "card: " + run + "list: " + run + "cut card: refused %d at %d\n" % refusal
 
 
-def header_sizes():
-    """The header's sizes, by their names without STRATELYN_. A size may be computed from those above it."""
-    sizes = {}
-    for name, size in re.findall(r"#define (STRATELYN_\w+) (.+)", HEADER.read_text().replace("\\\n", "")):
-        sizes[name] = eval(size, {}, sizes)
-    return {name.removeprefix("STRATELYN_"): size for name, size in sizes.items()}
+def header_numbers():
+    """The header's numbers, by their names without STRATELYN_. A number may be computed from those above it."""
+    numbers = {}
+    for name, number in re.findall(r"#define (STRATELYN_\w+) (.+)", HEADER.read_text().replace("\\\n", "")):
+        numbers[name] = eval(number, {}, numbers)
+    return {name.removeprefix("STRATELYN_"): number for name, number in numbers.items()}
 
 
-def hold_sizes(checks, longest):
+def hold_numbers(checks, longest):
     """The header's numbers are those of the table of fields, of the longest card, and of the room of an age."""
-    sizes = header_sizes()
+    numbers = header_numbers()
     for name, due in (
         ("COLUMNS_PER_FIELD", paper.COLUMNS),
         ("HEAD_LINES", len(paper.LINES)),
@@ -83,13 +83,13 @@ def hold_sizes(checks, longest):
         ("MOST_CARD_BYTES", len(longest)),
         ("MOST_LIST_BYTES", BYTES_OF_NUMBER * len(sum(layout.list_of(longest), []))),
         ("TICKS_PER_PSI", paper.TICKS),
-        ("BLANK_SLIP", paper.HEAD[paper.NUMBER["slip"] - 1].blank),
+        ("BLANK_SLIP", paper.field_of("slip").blank),
     ):
-        checks.hold(sizes.get(name) == due, "STRATELYN_%s in include/stratelyn.h is %d" % (name, due))
+        checks.hold(numbers.get(name) == due, "STRATELYN_%s in include/stratelyn.h is %d" % (name, due))
 
 
 def hold(checks, sample, longest):
     checks.file(HOSTS / "sample.h", member_text("SAMPLE", "Document 01's sample beam", sample).encode())
     checks.file(HOSTS / "longest.h", member_text("LONGEST", "The longest card that is accepted", longest).encode())
     checks.file(HOSTS / "example.out", example_text(sample).encode())
-    hold_sizes(checks, longest)
+    hold_numbers(checks, longest)

@@ -4,9 +4,9 @@ A case more goes to the end, so that the others keep their numbers.
 """
 from layout import card_of, start_of
 from paper import (
-    ACCELERATED, AGE, BEND, BLANK, COLUMNS, HEAD, LEAST_STRESS, LEAST_TRANSFER, LIFE, LINE_FEED, LOW_RELAXATION, MOIST, MOST_AGES,
+    ACCELERATED, AGE, BEND, BLANK, COLUMNS, LEAST_STRESS, LEAST_TRANSFER, LIFE, LINE_FEED, LOW_RELAXATION, MOIST, MOST_AGES,
     MOST_CREEP, MOST_CURING_IF_MOIST, MOST_KAPPA, MOST_MOMENTS, MOST_SEGMENTS, MOST_TRANSFER, MOST_X, NORMAL, NUMBER, PARABOLA,
-    POST_TENSIONED, PRETENSIONED, SEGMENT_RANGES, STRAIGHT, STRESS_RELIEVED, T, TICKS, Age, Head, Segment, friction, most_of, run,
+    POST_TENSIONED, PRETENSIONED, SEGMENT_RANGES, STRAIGHT, STRESS_RELIEVED, T, TICKS, Age, Head, Segment, field_of, friction, most_of, run,
     whole_creep,
 )
 
@@ -34,10 +34,6 @@ def card(base, path=(), loads=AGES, /, **changes):
     """A card with a base's head, its counts those of path and loads, and then some fields changed."""
     head = base._replace(segments=len(path), ages=len(loads))._replace(**changes)
     return card_of(head, path, loads)
-
-
-def field_of(name):
-    return HEAD[NUMBER[name] - 1]
 
 
 def of_field(name, value):
@@ -309,16 +305,19 @@ def gains():
     yield "a rise of g whose product with Es passes 64 bits", loaded(slender, 2**38)
 
 
+def with_blank_slip(base):
+    return with_columns(card(base), "slip", BLANK)
+
+
 def blank_slips():
-    blank = lambda base: with_columns(card(base), "slip", BLANK)
     reads = field_of("slip").blank
-    yield "blank slip", blank(POST)
+    yield "blank slip", with_blank_slip(POST)
     yield "slip %d, as a blank one reads" % reads, card(POST, slip=reads)
-    # The most jacking stress of which a blank slip leaves too little, and older wedges enough.
+    # So short that older wedges leave enough for all later losses, where a blank slip leaves just too little.
     short = POST._replace(length=12800)
-    before, _ = run(short._replace(slip=reads), [], AGES)
-    weak = short._replace(jacking_stress=(LEAST_STRESS + before.slip - 1) // TICKS)
-    yield "stress under %d psi by a blank slip" % (LEAST_STRESS // TICKS), blank(weak)
+    losses, _ = run(short._replace(slip=reads), [], AGES)
+    weak = short._replace(jacking_stress=(LEAST_STRESS + losses.slip - 1) // TICKS)
+    yield "stress under %d psi by a blank slip" % (LEAST_STRESS // TICKS), with_blank_slip(weak)
     yield "slip %d of the same, enough stress left" % OLDER_SLIP, card(weak, slip=OLDER_SLIP)
 
 

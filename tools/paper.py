@@ -128,8 +128,12 @@ BeforeAges = namedtuple("BeforeAges", BEFORE_AGES)
 AgeLine = namedtuple("AgeLine", ("age", "hour") + ROW)
 
 
+def field_of(name):
+    return HEAD[NUMBER[name] - 1]
+
+
 def most_of(name):
-    return HEAD[NUMBER[name] - 1].most
+    return field_of(name).most
 
 
 MOST_SEGMENTS, MOST_AGES = most_of("segments"), most_of("ages")

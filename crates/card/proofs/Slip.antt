@@ -7,9 +7,10 @@ use mathlib.Core.List.{List, _++_}
 use Prim.Native.Nat.{ℕ, suc, _+_, _-_, _*_, _≤_}
 use native.Mathlib.Omega.{arith}
 use lib.Dec.{leb, eqb}
-use lib.ListN.{length, getD, take, drop, replicate, length-take, length-drop, length-replicate, take-append-drop}
-use lib.Seq.{length-take-le, drop-drop}
+use lib.ListN.{length, getD, take, drop, replicate, length-take, length-drop, length-replicate}
+use lib.Seq.{length-take-le}
 use borrow.Author.Tests.{leb-true}
+use borrow.Rule.Slice.PartMut.{put-same}
 use Rattle.fields.specs.Quantities.{columns, fieldNumber, firstSegmentField}
 use Rattle.line.specs.declared.Field.the-variants.{Number, Blank}
 use Rattle.line.specs.declared.MayBeBlank.{MayBeBlank}
@@ -27,11 +28,11 @@ slipField = fieldNumber .slip
 abbrev onLine1 : ℕ
 onLine1 = getD headLines 0 0
 
-abbrev before : ℕ
-before = slipField - 1
+abbrev fieldsBefore : ℕ
+fieldsBefore = slipField - 1
 
-abbrev behind : ℕ
-behind = onLine1 - slipField
+abbrev fieldsBehind : ℕ
+fieldsBehind = onLine1 - slipField
 
 abbrev laterLines : List ℕ
 laterLines = drop 1 headLines
@@ -63,17 +64,18 @@ module _ (reads reads′ : ℕ) (front slip slip′ back : List ℕ) (at-slip : 
 
   same-shape : isShaped onLine1 card ≡ isShaped onLine1 card′
   same-shape =
-      shaped-parts front slip back before behind at-slip filled ∙ sym (shaped-parts front slip′ back before behind at-slip filled′)
+      shaped-parts front slip back fieldsBefore fieldsBehind at-slip filled
+      ∙ sym (shaped-parts front slip′ back fieldsBefore fieldsBehind at-slip filled′)
 
   same-amounts : amountsOf blank onLine1 1 card ≡ amountsOf blank′ onLine1 1 card′
   same-amounts =
-      amounts-parts front slip back before behind at-slip filled blank 1
+      amounts-parts front slip back fieldsBefore fieldsBehind at-slip filled blank 1
       ∙ rw (
-        amounts-elsewhere slipField reads reads′ before 1 front (λ k h e. omega arith),
+        amounts-elsewhere slipField reads reads′ fieldsBefore 1 front (λ k h e. omega arith),
         same,
-        amounts-elsewhere slipField reads reads′ behind (suc slipField) back (λ k h e. omega arith),
+        amounts-elsewhere slipField reads reads′ fieldsBehind (suc slipField) back (λ k h e. omega arith),
       )
-      (sym (amounts-parts front slip′ back before behind at-slip filled′ blank′ 1))
+      (sym (amounts-parts front slip′ back fieldsBefore fieldsBehind at-slip filled′ blank′ 1))
 
   same-numbers : lineNumbers blank onLine1 1 card ≡ lineNumbers blank′ onLine1 1 card′
   same-numbers = rw (same-shape, same-amounts)
@@ -83,7 +85,8 @@ module _ (reads reads′ : ℕ) (front slip slip′ back : List ℕ) (at-slip : 
 
   same-rest : drop (lineLength onLine1) card ≡ drop (lineLength onLine1) card′
   same-rest =
-      rest-parts front slip back before behind at-slip filled ∙ sym (rest-parts front slip′ back before behind at-slip filled′)
+      rest-parts front slip back fieldsBefore fieldsBehind at-slip filled
+      ∙ sym (rest-parts front slip′ back fieldsBefore fieldsBehind at-slip filled′)
 
   same-head : isRight blank′ onLine1 1 card′ ≡ true → head blank card ≡ head blank′ card′
   same-head right =
@@ -112,10 +115,6 @@ module _ (reads reads′ : ℕ) (front slip slip′ back : List ℕ) (at-slip : 
 -- ---- a card that reaches behind its slip
 
 module _ (card : List ℕ) (long : slipColumn + columns ≤ length card) where
-  own-slip : withSlip (slipColumns card) card ≡ card
-  own-slip =
-      rw (sym (drop-drop columns slipColumn card), take-append-drop columns (drop slipColumn card)) (take-append-drop slipColumn card)
-
   front-length : length (take slipColumn card) ≡ slipColumn
   front-length = length-take-le slipColumn card (omega arith)
 
@@ -126,8 +125,8 @@ module _ (card : List ℕ) (long : slipColumn + columns ≤ length card) where
       → amountOf (slipMayBeBlank reads) slipField (fieldOf (slipColumns card)) ≡ amountOf (slipMayBeBlank reads′) slipField (fieldOf slip′)
       → outcomeOf (slipMayBeBlank reads) card ≡ outcomeOf (slipMayBeBlank reads′) (withSlip slip′ card)
   with-slip reads reads′ slip′ filled′ same =
-      ap (outcomeOf (slipMayBeBlank reads)) (sym own-slip)
-      ∙ slip-alone reads reads′ (take slipColumn card) (slipColumns card) slip′ (drop (slipColumn + columns) card) front-length
+      ap (outcomeOf (slipMayBeBlank reads)) (sym (put-same slipColumn columns card))
+      ∙ slip-alone reads reads′ (take slipColumn card) (slipColumns card) slip′ (drop columns (drop slipColumn card)) front-length
       slip-length filled′ same
 
 -- ---- the laws
@@ -146,7 +145,7 @@ written-slip reads reads′ card written = by-shape (isShaped onLine1 card) refl
         with-slip card long reads reads′ (slipColumns card) filled
         (written-amount (slipMayBeBlank reads) (slipMayBeBlank reads′) slipField (slipColumns card)
         (λ spaces. written (spaces ∙ ap (λ (n : ℕ). replicate n space) filled)))
-        ∙ ap (outcomeOf (slipMayBeBlank reads′)) (own-slip card long)
+        ∙ ap (outcomeOf (slipMayBeBlank reads′)) (put-same slipColumn columns card)
     by-shape false e = wrong-line-1 (slipMayBeBlank reads) (slipMayBeBlank reads′) card card (rw e) (rw e) (rw e)
 
 blank-field : fieldOf (replicate columns space) ≡ Blank

@@ -1,5 +1,5 @@
 -- The theorem `slip-as-before` rests on it. Where a card's slip stands, and when it is blank: document 02, W2.
-use Prim.Native.Nat.{ℕ, _+_, _-_, _*_}
+use Prim.Native.Nat.{ℕ, _-_, _*_}
 use mathlib.Core.Path.{_≡_}
 use mathlib.Core.List.{List, _++_}
 use lib.ListN.{take, drop, replicate}
@@ -10,7 +10,7 @@ use Rattle.line.specs.Lines.{space}
 abbrev pub slipColumn : ℕ
 slipColumn = columns * (fieldNumber .slip - 1)
 
--- the slip's columns, fewer than 14 where the card ends before
+-- the slip's columns, fewer than 14 where the card ends before them
 abbrev pub slipColumns : List ℕ → List ℕ
 slipColumns card = take columns (drop slipColumn card)
 
@@ -20,4 +20,4 @@ SlipIsBlank card = slipColumns card ≡ replicate columns space
 
 -- a card with these columns for its slip
 abbrev pub withSlip : List ℕ → List ℕ → List ℕ
-withSlip slip card = take slipColumn card ++ (slip ++ drop (slipColumn + columns) card)
+withSlip slip card = take slipColumn card ++ (slip ++ drop columns (drop slipColumn card))

@@ -65,10 +65,10 @@ digits-amount one other field number (byte ∷ bytes) =
     by-byte false rest same = refl
 
 -- what begins with as many spaces as it has bytes is spaces alone
-all-spaces : (bytes : List ℕ) → spacesIn bytes ≡ length bytes → bytes ≡ replicate (length bytes) space
+spaces-alone : (bytes : List ℕ) → spacesIn bytes ≡ length bytes → bytes ≡ replicate (length bytes) space
 unfolding spacesIn
-all-spaces [] e = refl
-all-spaces (byte ∷ bytes) e = by-byte (eqb byte space) refl e (all-spaces bytes)
+spaces-alone [] e = refl
+spaces-alone (byte ∷ bytes) e = by-byte (eqb byte space) refl e (spaces-alone bytes)
   where
     by-byte : (b : Bool) → eqb byte space ≡ b → cond b (suc (spacesIn bytes)) 0 ≡ suc (length bytes)
         → (spacesIn bytes ≡ length bytes → bytes ≡ replicate (length bytes) space)
@@ -83,13 +83,14 @@ written-amount one other field bytes written = by-spaces (eqb (spacesIn bytes) (
   where
     by-spaces : (b : Bool) → eqb (spacesIn bytes) (length bytes) ≡ b
         → amountOf one field (fieldOf bytes) ≡ amountOf other field (fieldOf bytes)
-    by-spaces true q = absurd (written (all-spaces bytes (eqb-true (spacesIn bytes) (length bytes) q)))
+    by-spaces true q = absurd (written (spaces-alone bytes (eqb-true (spacesIn bytes) (length bytes) q)))
     by-spaces false q = rw q (digits-amount one other field 0 (drop (spacesIn bytes) bytes))
 
 -- ---- a line taken apart: `count` fields, one more, and `more` behind it
 
-same-test : (a b c d : ℕ) → a + d ≡ b + c → leb a b ≡ leb c d
-same-test a b c d apart = by-test (leb c d) refl
+-- two numbers compare as two others that are as far apart
+leb-shifted : (a b c d : ℕ) → a + d ≡ b + c → leb a b ≡ leb c d
+leb-shifted a b c d apart = by-test (leb c d) refl
   where
     by-test : (test : Bool) → leb c d ≡ test → leb a b ≡ test
     by-test true e = let h = leb-true c d e in le-leb a b (omega arith)
@@ -128,5 +129,5 @@ module _ (front mid back : List ℕ) (count more : ℕ) (before : length front �
         at,
         getD-append-add front (mid ++ back) (length mid + columns * more) 0,
         getD-append-add mid back (columns * more) 0,
-        same-test (length front + (length mid + columns * more) + 1) (length line) (lineLength more) (length back) (omega arith),
+        leb-shifted (length front + (length mid + columns * more) + 1) (length line) (lineLength more) (length back) (omega arith),
       )

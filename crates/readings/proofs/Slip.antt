@@ -14,27 +14,31 @@ use Rattle.card.specs.Card.{cardOutcome}
 use Rattle.card.proofs.Slip.{written-slip, blank-slip}
 use Rattle.text.specs.Columns.{firstColumns, inColumns}
 use Rattle.stratelyn.specs.Hosts.{replyBytes, Served}
-use Rattle.readings.specs.Slip.{SameRun, SlipAsBefore}
+use Rattle.readings.specs.Slip.{SameRun, olderSlip, SlipAsBefore}
 
 same-reply : (outcome : Outcome) (returned returned′ : ℕ)
     (report report′ reportWas scratch scratch′ scratchWas reply reply′ replyWas : List ℕ)
     → Served outcome returned report reportWas scratch scratchWas reply replyWas
     → Served outcome returned′ report′ reportWas scratch′ scratchWas reply′ replyWas
-    → (returned ≡ returned′) × (report ≡ report′) × (reply ≡ reply′)
+    → (returned ≡ returned′) × (report ≡ report′) × (scratch ≡ scratch′) × (reply ≡ reply′)
 same-reply outcome returned returned′ report report′ reportWas scratch scratch′ scratchWas reply reply′ replyWas one other =
     by-room (ltb (length replyWas) replyBytes) refl
   where
-    by-room : (short : Bool) → ltb (length replyWas) replyBytes ≡ short → (returned ≡ returned′) × (report ≡ report′) × (reply ≡ reply′)
+    same-scratch : scratch ≡ scratch′
+    same-scratch = one .scratch-kept ∙ sym (other .scratch-kept)
+
+    by-room : (short : Bool) → ltb (length replyWas) replyBytes ≡ short
+        → (returned ≡ returned′) × (report ≡ report′) × (scratch ≡ scratch′) × (reply ≡ reply′)
     by-room true e =
         let h = ltb-true (length replyWas) replyBytes e in
         let a = one .short h in
         let b = other .short h in
-        (a .number-is ∙ sym (b .number-is), a .report-kept ∙ sym (b .report-kept), a .reply-kept ∙ sym (b .reply-kept))
+        (a .number-is ∙ sym (b .number-is), a .report-kept ∙ sym (b .report-kept), same-scratch, a .reply-kept ∙ sym (b .reply-kept))
     by-room false e =
         let h = ltb-false (length replyWas) replyBytes e in
         let a = one .exact h in
         let b = other .exact h in
-        (a .number-is ∙ sym (b .number-is), a .report-is ∙ sym (b .report-is), a .values-are ∙ sym (b .values-are))
+        (a .number-is ∙ sym (b .number-is), a .report-is ∙ sym (b .report-is), same-scratch, a .values-are ∙ sym (b .values-are))
 
 same-run : (one other : Outcome) → one ≡ other → SameRun one other
 same-run one other e =
@@ -55,5 +59,5 @@ unfolding cardOutcome firstColumns digitsOf spacesIn
 slip-as-before = record {
   written = λ before card written. same-run _ _ (written-slip before blankSlip card written);
   blank = λ card blank. same-run _ _ (sym (blank-slip blankSlip blankSlip (inColumns blankSlip) card blank refl refl));
-  older = λ card blank. same-run _ _ (blank-slip 256 blankSlip (inColumns 256) card blank refl refl);
+  older = λ card blank. same-run _ _ (blank-slip olderSlip blankSlip (inColumns olderSlip) card blank refl refl);
 }

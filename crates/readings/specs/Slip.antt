@@ -16,7 +16,7 @@ use Rattle.stratelyn.specs.Hosts.{Served}
 
 -- what two cards give, or one card by two cores, is the same as it is read and over the whole run: whoever keeps the one promise and
 -- whoever keeps the other, lent the same buffers, answer the same number and values and leave the same report; a C host gets the same
--- number, report and reply; and the same text is printed
+-- number, and the same bytes in every buffer; and the same text is printed
 pub record SameRun (one other : Outcome) : Type 0 where
   pub read : one ≡ other
   pub native : (answer answer′ : Answer) (report report′ reportWas scratch scratch′ scratchWas : List ℕ)
@@ -25,8 +25,12 @@ pub record SameRun (one other : Outcome) : Type 0 where
   pub hosts : (returned returned′ : ℕ) (report report′ reportWas scratch scratch′ scratchWas reply reply′ replyWas : List ℕ)
       → Served one returned report reportWas scratch scratchWas reply replyWas
       → Served other returned′ report′ reportWas scratch′ scratchWas reply′ replyWas
-      → (returned ≡ returned′) × (report ≡ report′) × (reply ≡ reply′)
+      → (returned ≡ returned′) × (report ≡ report′) × (scratch ≡ scratch′) × (reply ≡ reply′)
   pub printed : readText (quantitiesRead one) ≡ readText (quantitiesRead other)
+
+-- "older wedges", for which a blank slip read 256 ticks
+abbrev pub olderSlip : ℕ
+olderSlip = 256
 
 pub record SlipAsBefore : Type 0 where
   -- "All cards with a written slip give the same report as before", whatever a blank one read
@@ -36,4 +40,4 @@ pub record SlipAsBefore : Type 0 where
   pub blank : (card : List ℕ) → SlipIsBlank card → SameRun (cardOutcome (withSlip (inColumns 384) card)) (cardOutcome card)
   -- "Yards that left it blank for older wedges .. must now write 256", and have the report that they had
   pub older : (card : List ℕ) → SlipIsBlank card
-      → SameRun (outcomeOf (slipMayBeBlank 256) card) (cardOutcome (withSlip (inColumns 256) card))
+      → SameRun (outcomeOf (slipMayBeBlank olderSlip) card) (cardOutcome (withSlip (inColumns olderSlip) card))

@@ -1,1 +1,2 @@
-// The marked readings of document 01 are statements of the definitions: specs/Readings.antt lists them, proofs/ shows them. Nothing runs.
+// Theorems about the definitions: the papers' marked readings, which specs/Readings.antt lists, and which cards run as they did before a
+// blank slip read 384 ticks, in specs/Slip.antt. Nothing runs.

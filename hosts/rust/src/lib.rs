@@ -175,7 +175,7 @@ fn ages_of_card(card: &[u8]) -> usize {
     std::str::from_utf8(&card[start..start + COLUMNS]).ok().and_then(|text| text.trim().parse().ok()).unwrap_or(0)
 }
 
-/// Runs a card, as text. A blank slip reads 384 ticks, 3/8 inch; where the wedges draw in 1/4 inch, as older ones do, the card has 256.
+/// Runs a card, as text. A blank slip reads 384 ticks, 3/8 inch; where the wedges draw in 1/4 inch, as older ones do, write 256.
 pub fn run_card(card: &[u8]) -> Result<Run, Refusal> {
     run(|report, scratch, reply| run_card_bytes(card, report, scratch, reply), || ages_of_card(card))
 }

@@ -255,7 +255,7 @@ fn numbers(list: &[u64]) -> Vec<u8> {
     list.iter().flat_map(|n| n.to_le_bytes()).collect()
 }
 
-#[derive(Debug, PartialEq)]
+#[derive(Clone, Debug, PartialEq)]
 struct Buffers {
     report: Vec<u8>,
     scratch: Vec<u8>,
@@ -301,10 +301,6 @@ fn compare(what: &str, returned: u64, was: &Buffers, now: &Buffers, due: Result<
     }
 }
 
-fn copy(b: &Buffers) -> Buffers {
-    Buffers { report: b.report.clone(), scratch: b.scratch.clone(), reply: b.reply.clone() }
-}
-
 /// How many cases gave each answer, and how many accepted ones have a gain.
 #[derive(Default)]
 struct Tally {
@@ -344,7 +340,7 @@ fn run_cases(
         disturb(&mut r, &edges, &mut f);
         let (bytes, reading) = input(&mut r, &f);
         let was = Buffers::new(&mut r, f[Ages.at()]);
-        let mut now = copy(&was);
+        let mut now = was.clone();
         let returned = entry(&bytes, &mut now);
         let due = reading.and_then(|member| {
             paper.run(&member, was.report.len() / BYTES_OF_NUMBER, was.scratch.len() / BYTES_OF_NUMBER)
@@ -388,7 +384,7 @@ fn lists() {
 fn run_with_slip(card: &[u8], slip: String, was: &Buffers) -> (u64, Buffers) {
     let start = COLUMNS * Slip.at();
     let card = [&card[..start], slip.as_bytes(), &card[start + COLUMNS..]].concat();
-    let mut now = copy(was);
+    let mut now = was.clone();
     (stratelyn::run_card_bytes(&card, &mut now.report, &mut now.scratch, &mut now.reply), now)
 }
 
