@@ -2,20 +2,18 @@
 -- and no field of a later line is the slip. So a card whose slip is written gives the same whatever a blank one reads, and one whose slip
 -- is blank gives what it gives with that number written there. Assumes nothing.
 use mathlib.Core.Path.{_≡_, refl, sym, ap, _∙_}
-use mathlib.Core.Bool.{Bool, true, false, and-eq-true-iff}
+use mathlib.Core.Bool.{Bool, true, false}
 use mathlib.Core.List.{List, _++_}
 use Prim.Native.Nat.{ℕ, suc, _+_, _-_, _*_, _≤_}
 use native.Mathlib.Omega.{arith}
-use lib.Dec.{leb, eqb}
 use lib.ListN.{length, getD, take, drop, replicate, length-take, length-drop, length-replicate}
 use lib.Seq.{length-take-le}
-use borrow.Author.Tests.{leb-true}
 use borrow.Rule.Slice.PartMut.{put-same}
 use Rattle.fields.specs.Quantities.{columns, fieldNumber, firstSegmentField}
 use Rattle.line.specs.declared.Field.the-variants.{Number, Blank}
 use Rattle.line.specs.declared.MayBeBlank.{MayBeBlank}
-use Rattle.line.specs.Lines.{space, lineFeed, spacesIn, fieldOf, amountOf, amountsOf, lineLength, isShaped, isRight, lineNumbers}
-use Rattle.line.proofs.LineByLine.{first-right, first-wrong}
+use Rattle.line.specs.Lines.{space, spacesIn, fieldOf, amountOf, amountsOf, lineLength, isShaped, isRight, lineNumbers}
+use Rattle.line.proofs.LineByLine.{shaped-long, first-right, first-wrong}
 use Rattle.line.proofs.Blank.{amounts-elsewhere, lines-elsewhere, written-amount, amounts-parts, rest-parts, shaped-parts}
 use Rattle.card.specs.Card.{slipMayBeBlank, headLines, head, firstSegmentLine, announcedLines, segmentsIn, agesIn, outcomeOf}
 use Rattle.card.specs.Slip.{slipColumn, slipColumns, SlipIsBlank, withSlip}
@@ -138,8 +136,7 @@ written-slip reads reads′ card written = by-shape (isShaped onLine1 card) refl
     by-shape : (shaped : Bool) → isShaped onLine1 card ≡ shaped
         → outcomeOf (slipMayBeBlank reads) card ≡ outcomeOf (slipMayBeBlank reads′) card
     by-shape true e =
-        let ended = and-eq-true-iff (leb (lineLength onLine1) (length card)) (eqb (getD card (columns * onLine1) 0) lineFeed) .0 e in
-        let all = leb-true (lineLength onLine1) (length card) (ended .0) in
+        let all = shaped-long onLine1 card e in
         let long : slipColumn + columns ≤ length card = omega arith in
         let filled = slip-length card long in
         with-slip card long reads reads′ (slipColumns card) filled

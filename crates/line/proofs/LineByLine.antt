@@ -21,16 +21,19 @@ use Rattle.line.proofs.Amounts.{amounts-length, Line}
 
 -- ---- a line that is right
 
+pub shaped-long : (count : ℕ) (bytes : List ℕ) → isShaped count bytes ≡ true → lineLength count ≤ length bytes
+shaped-long count bytes shaped =
+    leb-true (lineLength count) (length bytes)
+    (and-eq-true-iff (leb (lineLength count) (length bytes)) (eqb (getD bytes (columns * count) 0) lineFeed) .0 shaped .0)
+
 right-line : (blank : MayBeBlank) (count field : ℕ) (bytes : List ℕ) → isRight blank count field bytes ≡ true
     → (lineLength count ≤ length bytes) × (length (lineNumbers blank count field bytes) ≡ count)
 right-line blank count field bytes h =
     let amounts = amountsOf blank count field bytes in
     let right = and-eq-true-iff (isShaped count bytes) (allRead amounts) .0 h in
     let shaped : isShaped count bytes ≡ true = right .0 in
-    let ended = and-eq-true-iff (leb (lineLength count) (length bytes)) (eqb (getD bytes (columns * count) 0) lineFeed) .0 shaped in
-    let long = ended .0 in
     let numbers : lineNumbers blank count field bytes ≡ numbersIn amounts = rw shaped in (
-      leb-true (lineLength count) (length bytes) long,
+      shaped-long count bytes shaped,
       ap length numbers
           ∙ eqb-true (length (numbersIn amounts)) (length amounts) (right .1)
           ∙ amounts-length blank count field bytes,

@@ -16,41 +16,41 @@ use Rattle.text.specs.Columns.{firstColumns, inColumns}
 use Rattle.stratelyn.specs.Hosts.{replyBytes, Served}
 use Rattle.readings.specs.Slip.{SameRun, olderSlip, SlipAsBefore}
 
-same-reply : (outcome : Outcome) (returned returned′ : ℕ)
-    (report report′ reportWas scratch scratch′ scratchWas reply reply′ replyWas : List ℕ)
-    → Served outcome returned report reportWas scratch scratchWas reply replyWas
-    → Served outcome returned′ report′ reportWas scratch′ scratchWas reply′ replyWas
-    → (returned ≡ returned′) × (report ≡ report′) × (scratch ≡ scratch′) × (reply ≡ reply′)
-same-reply outcome returned returned′ report report′ reportWas scratch scratch′ scratchWas reply reply′ replyWas one other =
-    by-room (ltb (length replyWas) replyBytes) refl
-  where
-    same-scratch : scratch ≡ scratch′
-    same-scratch = one .scratch-kept ∙ sym (other .scratch-kept)
+-- what a C host gets of two runs, whether or not the reply has room
+module _ {outcome : Outcome} {returned returned′ : ℕ}
+    {report report′ reportWas scratch scratch′ scratchWas reply reply′ replyWas : List ℕ}
+    (one : Served outcome returned report reportWas scratch scratchWas reply replyWas)
+    (other : Served outcome returned′ report′ reportWas scratch′ scratchWas reply′ replyWas) where
+  abbrev Same : Type 0
+  Same = (returned ≡ returned′) × (report ≡ report′) × (scratch ≡ scratch′) × (reply ≡ reply′)
 
-    by-room : (short : Bool) → ltb (length replyWas) replyBytes ≡ short
-        → (returned ≡ returned′) × (report ≡ report′) × (scratch ≡ scratch′) × (reply ≡ reply′)
-    by-room true e =
-        let h = ltb-true (length replyWas) replyBytes e in
-        let a = one .short h in
-        let b = other .short h in
-        (a .number-is ∙ sym (b .number-is), a .report-kept ∙ sym (b .report-kept), same-scratch, a .reply-kept ∙ sym (b .reply-kept))
-    by-room false e =
-        let h = ltb-false (length replyWas) replyBytes e in
-        let a = one .exact h in
-        let b = other .exact h in
-        (a .number-is ∙ sym (b .number-is), a .report-is ∙ sym (b .report-is), same-scratch, a .values-are ∙ sym (b .values-are))
+  same-scratch : scratch ≡ scratch′
+  same-scratch = one .scratch-kept ∙ sym (other .scratch-kept)
+
+  same-served : Same
+  same-served = by-room (ltb (length replyWas) replyBytes) refl
+    where
+      by-room : (short : Bool) → ltb (length replyWas) replyBytes ≡ short → Same
+      by-room true e =
+          let a = one .short (ltb-true (length replyWas) replyBytes e) in
+          let b = other .short (ltb-true (length replyWas) replyBytes e) in
+          (a .number-is ∙ sym (b .number-is), a .report-kept ∙ sym (b .report-kept), same-scratch, a .reply-kept ∙ sym (b .reply-kept))
+      by-room false e =
+          let a = one .exact (ltb-false (length replyWas) replyBytes e) in
+          let b = other .exact (ltb-false (length replyWas) replyBytes e) in
+          (a .number-is ∙ sym (b .number-is), a .report-is ∙ sym (b .report-is), same-scratch, a .values-are ∙ sym (b .values-are))
 
 same-run : (one other : Outcome) → one ≡ other → SameRun one other
 same-run one other e =
     rw e
     (record {
       read = refl;
-      native = λ answer answer′ report report′ reportWas scratch scratch′ scratchWas a b. (
+      native = λ a b. (
         a .exact .answered .number-is ∙ sym (b .exact .answered .number-is),
         a .exact .answered .values-are ∙ sym (b .exact .answered .values-are),
         a .exact .report-is ∙ sym (b .exact .report-is),
       );
-      hosts = same-reply other;
+      hosts = λ a b. same-served a b;
       printed = refl;
     })
 

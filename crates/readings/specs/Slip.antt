@@ -19,10 +19,10 @@ use Rattle.stratelyn.specs.Hosts.{Served}
 -- number, and the same bytes in every buffer; and the same text is printed
 pub record SameRun (one other : Outcome) : Type 0 where
   pub read : one ≡ other
-  pub native : (answer answer′ : Answer) (report report′ reportWas scratch scratch′ scratchWas : List ℕ)
+  pub native : {answer answer′ : Answer} {report report′ reportWas scratch scratch′ scratchWas : List ℕ}
       → Promise one answer report reportWas scratch scratchWas → Promise other answer′ report′ reportWas scratch′ scratchWas
       → (answerNumber answer ≡ answerNumber answer′) × (answerValues answer ≡ answerValues answer′) × (report ≡ report′)
-  pub hosts : (returned returned′ : ℕ) (report report′ reportWas scratch scratch′ scratchWas reply reply′ replyWas : List ℕ)
+  pub hosts : {returned returned′ : ℕ} {report report′ reportWas scratch scratch′ scratchWas reply reply′ replyWas : List ℕ}
       → Served one returned report reportWas scratch scratchWas reply replyWas
       → Served other returned′ report′ reportWas scratch′ scratchWas reply′ replyWas
       → (returned ≡ returned′) × (report ≡ report′) × (scratch ≡ scratch′) × (reply ≡ reply′)
