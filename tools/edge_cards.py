@@ -6,8 +6,8 @@ from layout import card_of, start_of
 from paper import (
     ACCELERATED, AGE, BEND, BLANK, COLUMNS, LEAST_STRESS, LEAST_TRANSFER, LIFE, LINE_FEED, LOW_RELAXATION, MOIST, MOST_AGES,
     MOST_CREEP, MOST_CURING_IF_MOIST, MOST_KAPPA, MOST_MOMENTS, MOST_SEGMENTS, MOST_TRANSFER, MOST_X, NORMAL, NUMBER, PARABOLA,
-    POST_TENSIONED, PRETENSIONED, SEGMENT_RANGES, STRAIGHT, STRESS_RELIEVED, T, TICKS, Age, Head, Segment, field_of, friction, most_of, run,
-    whole_creep,
+    POST_TENSIONED, PRETENSIONED, SEGMENT_RANGES, STRAIGHT, STRESS_RELIEVED, T, TICKS, Age, Head, Segment, field_of, friction,
+    friction_factor, most_of, run, whole_creep,
 )
 
 MONTH, YEAR = 744, 8784
@@ -28,6 +28,9 @@ MANY_SPACES = 8192
 
 # What older wedges draw in, and a blank slip read up to document 02's W2.
 OLDER_SLIP = 256
+
+# The largest X that passed up to document 02's W3, 0.3 T.
+OLDER_MOST_X = 3 * T // 10
 
 
 def card(base, path=(), loads=AGES, /, **changes):
@@ -158,11 +161,16 @@ def hours():
         yield label, card(POST, (), [Age(hour, 0) for hour in of_ages])
 
 
+def shortest_straight(wobble, x):
+    """The shortest straight that reaches this X."""
+    return Segment(STRAIGHT, -(-x * TICKS * 10**6 // (wobble * T)), 0)
+
+
 def straight_of(x):
     """A wobble and a straight whose X is this."""
     _, longest, _ = SEGMENT_RANGES[STRAIGHT]
     for wobble in range(200, most_of("wobble") + 1):
-        segment = Segment(STRAIGHT, -(-x * TICKS * 10**6 // (wobble * T)), 0)
+        segment = shortest_straight(wobble, x)
         if segment.length <= longest and friction(wobble, 0, [segment]) == x:
             return wobble, segment
     raise SystemExit("no straight has X %d" % x)
@@ -321,7 +329,81 @@ def blank_slips():
     yield "slip %d of the same, enough stress left" % OLDER_SLIP, card(weak, slip=OLDER_SLIP)
 
 
-PARTS = (ranges, counts, codes, segments, moments, hours, duct, section_and_creep, stress, long_cards, shape, gains, blank_slips)
+# A tendon through a bridge; the parabolas of document 002's girder, example 1.
+BRIDGE = POST._replace(jacking_stress=190000, wobble=200, curvature=250000)
+GIRDER = [
+    Segment(PARABOLA, feet * TICKS, rise)
+    for feet, rise in ((64, 2560), (80, 3413), (16, 682), (14, 682), (70, 3413), (56, 2560))
+]
+
+# What leaves no stress in the concrete and so no shortening: the stress that friction leaves comes to the first age.
+UNLOADED = dict(eccentricity=1024, own_weight_moment=2**26)
+
+# The least X at which 14 and 16 powers both give another factor than 15; the least one after which the factor rises by 3.
+X_OF_POWERS = 14937497
+X_BEFORE_RISE = 22428083
+
+
+def bridge_friction(path):
+    """X, in a bridge."""
+    return friction(BRIDGE.wobble, BRIDGE.curvature, path)
+
+
+def length_of(path):
+    return sum(segment.length for segment in path)
+
+
+def bridge(path):
+    label = "X %d: a bridge's tendon, %d segments" % (bridge_friction(path), len(path))
+    return label, card(BRIDGE, path, length=length_of(path))
+
+
+def bridge_path_of(x, path):
+    """A path with a bend and a straight more, so that its X in a bridge is this."""
+    _, _, widest = SEGMENT_RANGES[BEND]
+    for angle in range(widest + 1):
+        bent = path + [Segment(BEND, 0, angle)]
+        straight = shortest_straight(BRIDGE.wobble, x - bridge_friction(bent))
+        whole = bent + [straight]
+        if straight.length > 0 and length_of(whole) <= most_of("length") and bridge_friction(whole) == x:
+            return whole
+    raise SystemExit("no path has X %d" % x)
+
+
+def without_and_with_bend(x, **changes):
+    """Two cards: a straight with this X, and the same with a bend behind it that adds 1."""
+    wobble, straight = straight_of(x)
+    bend = Segment(BEND, 0, -(-TICKS * 10**6 // T))
+    return [card(BRIDGE, path, **{"wobble": wobble, "curvature": 1, **changes}) for path in ([straight], [straight, bend])]
+
+
+def least_jacking_stress(x):
+    """The least jacking stress of which this X leaves enough."""
+    return -(-LEAST_STRESS * T // (TICKS * friction_factor(x)))
+
+
+def long_ducts():
+    yield bridge(6 * GIRDER)
+    yield bridge(bridge_path_of(MOST_X, (MOST_SEGMENTS - 2) * [Segment(PARABOLA, 30 * TICKS, TICKS)]))
+    for x, label in ((OLDER_MOST_X + 1, "just above 0.3 T"), (X_OF_POWERS, "whose factor takes 15 powers")):
+        wobble, segment = straight_of(x)
+        yield "X %d, %s: straight, length %d, wobble %d" % (x, label, segment.length, wobble), card(BRIDGE, [segment], wobble=wobble)
+    least, enough = LEAST_STRESS // TICKS, least_jacking_stress(MOST_X)
+    wobble, segment = straight_of(MOST_X)
+    for jacked, label in ((enough - 1, "stress under %d psi by friction"), (enough, "%d psi left by friction, not by the first age")):
+        yield label % least, card(POST, [segment], wobble=wobble, jacking_stress=jacked, **UNLOADED)
+    for x, text in zip((X_BEFORE_RISE, X_BEFORE_RISE + 1), without_and_with_bend(X_BEFORE_RISE)):
+        yield "X %d, factor %d" % (x, friction_factor(x)), text
+    # Under it by a tick where the straight ends; the bend lifts the factor.
+    x = next(x for x in range(X_BEFORE_RISE, MOST_X) if least_jacking_stress(x) > least_jacking_stress(x + 1))
+    under, dips = without_and_with_bend(x, jacking_stress=least_jacking_stress(x + 1), **UNLOADED)
+    yield "stress under %d psi at a path's end, by a tick" % least, under
+    yield "stress under %d psi along that path, not at its end" % least, dips
+
+
+PARTS = (
+    ranges, counts, codes, segments, moments, hours, duct, section_and_creep, stress, long_cards, shape, gains, blank_slips, long_ducts,
+)
 
 
 def cases():

@@ -60,10 +60,12 @@ SLAB = [
     ("last stress", "stress", [3], "slab_as_printed", 3),
 ]
 
-# Document 002's jacking stress in ksi, and how far X and the stress by equation 1 may lie from its own.
-JACKING_STRESS = 202.5
+# How far X and the stress after friction, in ksi, may lie from document 002's: its X has four places, its factor three, its stress one.
 X_TOLERANCE = 0.0001
 KSI_TOLERANCE = 0.15
+
+# How far the factor of friction may lie from equation 1's: "under three units" of document 02's W3.
+FACTOR_TOLERANCE = 3 / paper.T
 
 
 def shares(rows):
@@ -142,18 +144,26 @@ def compare(checks, answers, heading, plain_card, quantities):
         checks.hold(abs(matched - document) <= sum(map(number, row[6].split("+"))), where + "tolerance")
 
 
+def card_bytes(name):
+    return (CRATE / "data" / (name + ".card")).read_bytes()
+
+
 def compare_friction(checks, answers):
-    """Document 002's table, and the friction of the slab."""
+    """Document 002's table, and the friction of the slab. An answer has no X, so that is worked out from the card."""
     heading = "Document 002, example 1"
-    for point, document_x, x_cell, document_stress, by_2_cell, percent_cell, by_1_cell in table(heading):
-        x = psi(answers["box_girder_" + point.lower()], BEFORE, "friction") / (1000 * JACKING_STRESS)
-        by_1, by_2 = JACKING_STRESS * exp(-x), JACKING_STRESS * (1 - x)
-        percent = 100 * (by_2 / number(document_stress) - 1)
-        for cell, value in ((x_cell, x), (by_2_cell, by_2), (percent_cell, percent), (by_1_cell, by_1)):
-            checks.hold(says(cell, value), "%s, %s: %f" % (heading, point, value))
-        checks.hold(abs(x - number(document_x)) <= X_TOLERANCE, "%s, %s: X's tolerance" % (heading, point))
-        checks.hold(abs(by_1 - number(document_stress)) <= KSI_TOLERANCE, "%s, %s: the stress's tolerance" % (heading, point))
-    slab = re.search(r"hence ([\d,]+) psi by equation 2; `slab_friction` gives ([\d,.]+) \(tolerance (\d+)", DOCUMENT)
+    for point, document_x, x_cell, document_stress, stress_cell, differs_cell in table(heading):
+        name, where = "box_girder_" + point.lower(), "%s, %s: " % (heading, point)
+        head, segments, _ = paper.read_card(card_bytes(name))
+        in_units = paper.friction(head.wobble, head.curvature, segments)
+        x, factor = in_units / paper.T, paper.friction_factor(in_units) / paper.T
+        stress = (head.jacking_stress - psi(answers[name], BEFORE, "friction")) / 1000
+        differs = stress - number(document_stress)
+        for cell, value in ((x_cell, x), (stress_cell, stress), (differs_cell, differs)):
+            checks.hold(says(cell, value), where + "%f" % value)
+        checks.hold(abs(x - number(document_x)) <= X_TOLERANCE, where + "X's tolerance")
+        checks.hold(abs(differs) <= KSI_TOLERANCE, where + "the stress's tolerance")
+        checks.hold(abs(factor - exp(-x)) < FACTOR_TOLERANCE, where + "the factor's tolerance")
+    slab = re.search(r"([\d,]+) psi by equation 1; `slab_friction` gives ([\d,.]+) \(tolerance (\d+)", DOCUMENT)
     document, cell, tolerance = slab.groups()
     ours = psi(answers["slab_friction"], BEFORE, "friction")
     checks.hold(says(cell, ours), "the slab's friction, %f" % ours)
@@ -161,7 +171,7 @@ def compare_friction(checks, answers):
 
 
 def answers_of_cards():
-    return {name: paper.card_rows((CRATE / "data" / (name + ".card")).read_bytes()) for name in CARDS}
+    return {name: paper.card_rows(card_bytes(name)) for name in CARDS}
 
 
 def text(answers):

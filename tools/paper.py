@@ -30,13 +30,16 @@ NORMAL, LIGHTWEIGHT = 1, 2
 STRAIGHT, PARABOLA, BEND = 1, 2, 3
 
 MOST_MOMENTS = 2**40
-MOST_X = 5033164
+MOST_X = 3 * T // 2  # 1.5 T, of document 02's W3
 MOST_KAPPA = 2**30
 MOST_CREEP = 2**56
 LEAST_STRESS = 1000 * TICKS
 MOST_CURING_IF_MOIST = 168
 LEAST_TRANSFER = {MOIST: 72, ACCELERATED: 1}
 MOST_TRANSFER = 960
+
+# The power of X up to which document 02's W3 goes for e to the power -X/T.
+POWERS = 15
 
 
 # The table of fields
@@ -363,6 +366,14 @@ def friction(wobble, curvature, segments):
     return x
 
 
+def friction_factor(x):
+    """The part of the jacking stress that friction leaves, in 1/T: e to the power -X/T, as document 02's W3 rounds it."""
+    h = T
+    for k in range(POWERS, 0, -1):
+        h = T - h * x // (k * T)
+    return h
+
+
 def run(head, segments, ages, report_room=MOST_REPORT_ROOM, scratch_room=MOST_SCRATCH_ROOM):
     """The losses and the stress before the ages, and each age's line; rooms are in numbers."""
     check_codes(head, segments)
@@ -402,7 +413,7 @@ def run(head, segments, ages, report_room=MOST_REPORT_ROOM, scratch_room=MOST_SC
     _, _, early_logs = start
     stress, losses = head.jacking_stress * TICKS, []
     for loss in (
-        lambda stress: stress * x // T,
+        lambda stress: stress - stress * friction_factor(x) // T,
         lambda stress: head.es * head.slip * TICKS // (12 * head.length),
         lambda stress: head.deflector_loss * TICKS,
         lambda stress: relax(stress, early_logs) if head.kind == PRETENSIONED else 0,

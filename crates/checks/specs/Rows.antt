@@ -148,7 +148,7 @@ hours q =
 
 -- ---- the rows of X, of the lent buffers, of κ and of U·κ; the places of the first two are numbers of their own
 
--- duct: "kind 1 with segments; X over 5,033,164"
+-- duct: "kind 1 with segments", and document 02, W3: "Refusal 4 place 2 now begins where X passes 1.5 T"
 abbrev pub duct : Bool → ℕ → ℕ → List Check
 duct pretensioned segments friction =
     at 1 (not pretensioned || eqb segments 0) ∷ at 2 (leb friction mostFriction) ∷ []

@@ -62,7 +62,7 @@ bounded q report scratch few facts =
       inertia = omega arith;
       eccentricity-fits = omega arith;
       own-weight-fits = head .own-weight-most;
-      friction-fits = let most = facts .friction-most in omega arith;
+      friction-most = facts .friction-most;
       kappa-fits = facts .kappa-most;
       creep-fits = creep-fits _ _ _ _ _;
       shrinkage-fits = shrinkage-fits _ _ _;

@@ -3,7 +3,7 @@ use Prim.Native.Nat.{ℕ, _*_, _/_, _^_}
 use mathlib.Core.Bool.{Bool, _||_}
 use mathlib.Core.List.{[]}
 use lib.Dec.{ltb}
-use Rattle.ticks.specs.Ticks.{ticksPerUnit}
+use Rattle.ticks.specs.Ticks.{ticksPerUnit, T}
 use Rattle.fields.specs.Quantities.{OfFields}
 
 -- ---- "Fields and ranges"
@@ -97,10 +97,10 @@ mostRise = 65536
 abbrev pub mostAngle : ℕ
 mostAngle = 4096
 
--- ---- the rows from duct to stress: "X over 5,033,164", "κ over 2^30", "U·κ over 2^56", "under 1,000 psi", in ticks
+-- ---- the rows from duct to stress: "where X passes 1.5 T" (document 02, W3), "κ over 2^30", "U·κ over 2^56", "under 1,000 psi", in ticks
 
 abbrev pub mostFriction : ℕ
-mostFriction = 5033164
+mostFriction = 3 * T / 2
 
 abbrev pub mostKappa : ℕ
 mostKappa = 2 ^ 30

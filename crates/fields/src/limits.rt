@@ -3,6 +3,7 @@
 use crate::layout::HEAD_FIELDS;
 use crate::layout::PER_AGE;
 use crate::layout::PER_SEGMENT;
+use ticks::T;
 use ticks::TICKS_PER_UNIT;
 
 // ---- Codes
@@ -108,7 +109,7 @@ pub const MOST_MOIST_CURING: u64 = 168;
 
 // ---- The rows from duct to stress
 
-pub const MOST_FRICTION: u64 = 5_033_164;
+pub const MOST_FRICTION: u64 = 3 * T / 2;
 
 // 2^30
 pub const MOST_KAPPA: u64 = 1_073_741_824;

@@ -6,12 +6,18 @@ use native.Mathlib.Omega.{arith}
 use Rattle.ticks.specs.Ticks.{T}
 use Rattle.coefficient.specs.declared.codes.Steel.{Steel}
 use Rattle.coefficient.specs.declared.codes.Steel.the-variants.{StressRelieved, LowRelaxation}
-use Rattle.formulas.specs.Steps.{yield, relaxationDivisor, relaxationFactor, relaxationLoss}
+use Rattle.exponential.proofs.Turns.{factor-most}
+use Rattle.formulas.specs.Steps.{stressLeft, yield, relaxationDivisor, relaxationFactor, relaxationLoss}
 use Rattle.formulas.specs.Steps.{momentStress, concreteStress, creepLoss, shrinkageLoss, momentGain}
 use Rattle.formulas.specs.Conditions.{stressLimit, leastStrength, logarithmLimit, leastInertia, mostMomentStress, creepLimit}
 use Rattle.formulas.specs.Conditions.{mostGain}
 use Rattle.formulas.specs.Conditions.{RelaxationFits, MomentsFit, ConcreteFits, CreepFits, ShrinkageFits, GainFits}
 use Rattle.formulas.proofs.Products.{product}
+
+-- the factor of friction is at most T
+pub stress-left-most : (stress friction : ℕ) → stressLeft stress friction ≤ stress
+stress-left-most stress friction =
+    div-le-of-le-mul T (omega (arith, mul-le-mul-left stress (factor-most friction)))
 
 pub yield-least : (steel : Steel) (ultimateStrength : ℕ) → leastStrength ≤ ultimateStrength → 2 ^ 26 ≤ yield steel ultimateStrength
 yield-least StressRelieved ultimateStrength h = omega arith
@@ -22,8 +28,8 @@ divisor-some StressRelieved = omega arith
 divisor-some LowRelaxation = omega arith
 
 -- a stress in yields, in parts of T
-pub factor-most : (stress y : ℕ) → stress < stressLimit → 2 ^ 26 ≤ y → relaxationFactor stress y ≤ 2 ^ 26
-factor-most stress y s h =
+pub relaxation-factor-most : (stress y : ℕ) → stress < stressLimit → 2 ^ 26 ≤ y → relaxationFactor stress y ≤ 2 ^ 26
+relaxation-factor-most stress y s h =
     let whole : stress * T ≤ 2 ^ 26 * y = omega arith in
     let ratio : stress * T / y ≤ 2 ^ 26 = div-le-of-le-mul y (omega (arith, whole)) in
     omega arith
@@ -37,7 +43,7 @@ pub relaxation-product : (steel : Steel) (stress logarithms y : ℕ) → stress 
     → 2 ^ 26 ≤ y
     → stress * logarithms / relaxationDivisor steel * relaxationFactor stress y ≤ 2 ^ 54
 relaxation-product steel stress logarithms y s l h =
-    product 28 26 (inner-most steel (stress * logarithms) (product 28 11 (omega arith) (omega arith))) (factor-most stress y s h)
+    product 28 26 (inner-most steel (stress * logarithms) (product 28 11 (omega arith) (omega arith))) (relaxation-factor-most stress y s h)
 
 pub relaxation-most : {ultimateStrength stress logarithms : ℕ} (steel : Steel) → RelaxationFits ultimateStrength stress logarithms
     → relaxationLoss steel ultimateStrength stress logarithms ≤ 2 ^ 54

@@ -2,17 +2,13 @@
 -- product wraps: the powers of two above document 01's ranges.
 use Prim.Native.Nat.{ℕ, _^_, _≤_, _<_}
 use Rattle.ticks.specs.Ticks.{T}
-use Rattle.fields.specs.Limits.{strengths, range}
+use Rattle.fields.specs.Limits.{strengths, range, mostFriction}
 
 -- ---- the bounds
 
 -- above every stress, of the steel and of the concrete, in ticks
 abbrev pub stressLimit : ℕ
 stressLimit = 2 ^ 28
-
--- above X
-abbrev pub frictionLimit : ℕ
-frictionLimit = 2 ^ 23
 
 abbrev pub slipLimit : ℕ
 slipLimit = 2 ^ 12
@@ -79,7 +75,7 @@ mostGain = 2 ^ 54
 
 pub record FrictionFits (stress friction : ℕ) : Type 0 where
   pub stress-fits : stress < stressLimit
-  pub friction-fits : friction < frictionLimit
+  pub friction-most : friction ≤ mostFriction
 
 pub record SlipFits (es slip length : ℕ) : Type 0 where
   pub es-fits : es < esLimit

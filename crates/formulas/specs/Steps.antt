@@ -1,12 +1,16 @@
--- The promise rests on it. What each loss is: document 01, "Steps"; and the gain of document 02, W1. Stresses are in ticks, "Every
--- division rounds down".
+-- The promise rests on it. What each loss is: document 01, "Steps", with friction by document 02, W3; and the gain of document 02, W1.
+-- Stresses are in ticks, "Every division rounds down".
 use Prim.Native.Nat.{ℕ, _+_, _-_, _*_, _/_, _^_, max}
 use Rattle.ticks.specs.Ticks.{ticksPerUnit, T}
 use Rattle.coefficient.specs.declared.codes.Steel.{Steel}
+use Rattle.exponential.specs.Factor.{factor}
 
--- "1. Friction .. Loss f·X/T"
+-- "1. Friction", by document 02, W3: "Equation 1 of document 001 .. the stress left, rounded down, is f times e to the power −X/T"
+abbrev pub stressLeft : ℕ → ℕ → ℕ
+stressLeft stress friction = stress * factor friction / T
+
 abbrev pub frictionLoss : ℕ → ℕ → ℕ
-frictionLoss stress friction = stress * friction / T
+frictionLoss stress friction = stress - stressLeft stress friction
 
 -- "2. Slip Es·slip·1024/(12·length)"
 abbrev pub slipLoss : ℕ → ℕ → ℕ → ℕ

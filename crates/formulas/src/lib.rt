@@ -44,7 +44,7 @@ pub fn friction_loss(stress: u64, friction: u64) -> u64
     requires { ⌜ FrictionFits stress friction ⌝ }
     ensures { λ r. ⌜ r ≡ frictionLoss stress friction ⌝ }
 {
-    stress * friction / T
+    stress - stress * exponential::factor(friction) / T
 }
 
 pub fn slip_loss(es: u64, slip: u64, length: u64) -> u64

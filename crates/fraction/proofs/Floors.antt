@@ -3,9 +3,10 @@
 use Prim.Native.Nat.{ℕ, _*_, _-_, _/_, _≤_, _<_}
 use native.Mathlib.Nat.{mul-div-le, lt-mul-div-succ}
 use native.Mathlib.Omega.{arith}
+use lib.Dec.{lit<}
 use Rattle.fraction.specs.Fraction.{Fraction, whole, _⊕_, _⊖_, _⊗_, opposite, _≼_, larger}
 use Rattle.fraction.specs.Equality.{over, _≈_}
-use Rattle.fraction.proofs.Laws.{≈-refl, _⨾_, ≼-resp-≈, ⊗-cong, ⊗-comm, ⊗-assoc, one-⊗, ⊗-mono-left, larger-cases}
+use Rattle.fraction.proofs.Laws.{≈-refl, ≈-sym, _⨾_, ≼-resp-≈, ⊗-cong, ⊗-comm, ⊗-assoc, one-⊗, ⊗-mono-left, larger-cases}
 
 -- ---- whole numbers; their sums and products are in Laws.antt
 
@@ -59,6 +60,12 @@ over-cancel {x} {y} a b h k l = ≼-resp-≈ (back x) (back y) (⊗-mono-left (o
   where
     back : (z : Fraction) → z ⊗ over a b h ⊗ over b a k ≈ z
     back z = ⊗-assoc z (over a b h) (over b a k) ⨾ ⊗-cong ≈-refl (over-inverse a b h k) ⨾ ⊗-comm z (whole 1) ⨾ one-⊗ z
+
+pub whole-cancel : {x y : Fraction} (k : ℕ) → 0 < k → whole k ⊗ x ≼ whole k ⊗ y → x ≼ y
+whole-cancel {x} {y} k h l = over-cancel k 1 (lit< tt) h (≼-resp-≈ (turn x) (turn y) l)
+  where
+    turn : (z : Fraction) → whole k ⊗ z ≈ z ⊗ over k 1 (lit< tt)
+    turn z = ⊗-comm (whole k) z ⨾ ⊗-cong ≈-refl (≈-sym (over-one k (lit< tt)))
 
 -- ---- floors
 

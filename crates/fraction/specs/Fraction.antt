@@ -1,13 +1,14 @@
 -- The promise rests on it. Document 01: "A fraction is a whole number over a positive one, and two are compared by cross products." The
 -- whole number is a difference of two naturals, up − down, so that every law of fractions is one of + and × on naturals.
 use mathlib.Core.Bool.{cond}
-use Prim.Native.Nat.{ℕ, _+_, _*_, _≤_, _<_}
-use native.Mathlib.Nat.{mul-pos}
+use Prim.Native.Nat.{ℕ, _+_, _-_, _*_, _≤_, _<_, max}
+use native.Mathlib.Nat.{mul-pos, le-max-left}
 use lib.Dec.{leb, lit<}
 
 infix 40 _≼_
 infixl 75 _⊕_ _⊖_
 infixl 80 _⊗_
+infixl 85 _÷_
 -- (up − down) / den
 pub record Fraction : Type 0 where
   pub up : ℕ
@@ -40,6 +41,18 @@ x ⊗ y = record {
   den = x .den * y .den;
   positive = mul-pos (x .positive) (y .positive);
 }
+
+-- quotients without rounding: no divisor of an accepted member is 0; a divisor of 0 would read 1 here
+pub at-least-one : (b : ℕ) → 0 < max 1 b
+at-least-one b = le-max-left 1 b
+
+-- a / b
+unfoldable pub _÷_ : ℕ → ℕ → Fraction
+a ÷ b = record { up = a; down = 0; den = max 1 b; positive = at-least-one b }
+
+-- 1 / x, for an x above 0
+unfoldable pub inverse : Fraction → Fraction
+inverse x = record { up = x .den; down = 0; den = max 1 (x .up - x .down); positive = at-least-one (x .up - x .down) }
 
 -- x ≤ y by cross products is (up − down of x) · (den of y) ≤ (up − down of y) · (den of x). What one side takes off the other
 -- adds instead, and each side is a natural: x's is `cross x y`, y's is `cross y x`.

@@ -1,11 +1,11 @@
 -- The promise rests on it. κ, U and S; X, and the stress along the path: document 01, "Steps", first lines and 1.
-use Prim.Native.Nat.{ℕ, _+_, _*_, _/_, _-_, _^_}
+use Prim.Native.Nat.{ℕ, _+_, _*_, _/_, _^_}
 use mathlib.Core.Bool.{cond}
 use mathlib.Core.List.{List, [], _∷_}
 use lib.Dec.{eqb}
 use Rattle.ticks.specs.Ticks.{ticksPerUnit, T}
 use Rattle.fields.specs.Quantities.{Segment, parabola, bend, Quantities}
-use Rattle.formulas.specs.Steps.{frictionLoss, kappaUnit}
+use Rattle.formulas.specs.Steps.{stressLeft, kappaUnit}
 use Rattle.coefficient.specs.declared.codes.Cure.{Cure}
 use Rattle.coefficient.specs.declared.codes.Concrete.{Concrete}
 use Rattle.coefficient.specs.Coefficients.{scf, ssf, mcf, ucr, ush}
@@ -59,9 +59,6 @@ pathFriction wobble curvature (segment ∷ segments) =
 abbrev pub jacked : Quantities → ℕ
 jacked q = q .jackingStress * ticksPerUnit
 
--- "Loss f·X/T; the stress after j segments takes X of the first j": the loss along these segments, and the stress after them
-abbrev pub frictionAlong : Quantities → List Segment → ℕ
-frictionAlong q segments = frictionLoss (jacked q) (pathFriction (q .wobble) (q .curvature) segments)
-
+-- "the stress after j segments takes X of the first j": the stress left after these segments
 abbrev pub stressAlong : Quantities → List Segment → ℕ
-stressAlong q segments = jacked q - frictionAlong q segments
+stressAlong q segments = stressLeft (jacked q) (pathFriction (q .wobble) (q .curvature) segments)

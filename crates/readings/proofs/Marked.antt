@@ -11,6 +11,7 @@ use Rattle.fields.specs.Outcomes.{numbersIn}
 use Rattle.line.specs.Lines.{digitsOf, spacesIn}
 use Rattle.card.specs.Card.{cardOutcome}
 use Rattle.fields.specs.Quantities.{segmentsFrom, agesFrom}
+use Rattle.exponential.specs.Factor.{factor}
 use Rattle.member.specs.Constants.{pathFriction}
 use Rattle.checks.specs.Rows.{firstFailing, segmentCodes, rangesOfSegments, rangesOfMoments, hoursOfAges}
 use Rattle.member.specs.Member.{checkedOf}
@@ -24,7 +25,7 @@ use Rattle.readings.specs.Readings.{double0153, halfApart}
 unfoldable computed : Unit {0}
 unfolding firstColumns agesText reportText linesOf fieldsOf hourly cardOutcome digitsOf spacesIn numbersIn segmentsFrom agesFrom checkedOf firstFailing
     segmentCodes rangesOfSegments rangesOfMoments hoursOfAges memberResult logarithm scf ssf mcf ucr ush creepShare shrinkageShare
-    pathFriction ticksOf magnitude
+    pathFriction factor ticksOf magnitude
 computed = tt
 
 -- the longest run, by itself: its 128 logarithms take most of the steps that a declaration may take
@@ -55,10 +56,10 @@ marked = record {
   parabola-X = refl;
   surface-1024 = refl;
   surface-1023 = refl;
-  X-5033164 = refl;
-  X-5033164-passes = refl;
-  X-5033165 = refl;
-  X-5033165-refused = refl;
+  X-25165824 = refl;
+  X-25165824-passes = refl;
+  X-25165825 = refl;
+  X-25165825-refused = refl;
   ages-64 = sixty-four-ages;
   ages-65 = refl;
   gain-reaches = refl;

@@ -64,10 +64,12 @@ fieldsOf (line ∷ lines) = line ++ fieldsOf lines
 abbrev pub withVolumeToSurface : ℕ → List ℕ
 withVolumeToSurface volumeToSurface = linesOf (line1 ∷ line2 volumeToSurface ∷ line3 ∷ line4 0 0 0 3 ∷ ageLines)
 
--- wobble 1, curvature 150,000, a bend of 2 radians and a straight segment of this length
+-- wobble 1, curvature 150,000, bends of 4, 4 and 2 radians and a straight segment of this length
 abbrev pub withDuct : ℕ → List ℕ
 withDuct straight =
-    linesOf (line1 ∷ line2 3072 ∷ line3 ∷ line4 1 150000 2 3 ∷ (3 ∷ 0 ∷ 2048 ∷ []) ∷ (1 ∷ straight ∷ 0 ∷ []) ∷ ageLines)
+    linesOf
+    (line1 ∷ line2 3072 ∷ line3 ∷ line4 1 150000 4 3 ∷ (3 ∷ 0 ∷ 4096 ∷ []) ∷ (3 ∷ 0 ∷ 4096 ∷ []) ∷ (3 ∷ 0 ∷ 2048 ∷ [])
+    ∷ (1 ∷ straight ∷ 0 ∷ []) ∷ ageLines)
 
 -- so many ages, an hour apart, from this hour on
 unfoldable pub hourly : ℕ → ℕ → List (List ℕ)
@@ -214,11 +216,11 @@ pub record Marked : Type 0 where
   -- "volume/surface 1,024 passes, 1,023 gives 2", at field 13
   pub surface-1024 : numberAndPlace (resultOfCard (withVolumeToSurface 1024) 15) ≡ 0 ∷ 0 ∷ []
   pub surface-1023 : numberAndPlace (resultOfCard (withVolumeToSurface 1023) 15) ≡ 2 ∷ 13 ∷ []
-  -- "X 5,033,164 passes, 5,033,165 gives 4", at place 2
-  pub X-5033164 : frictionOfCard (withDuct 61) ≡ 5033164
-  pub X-5033164-passes : numberAndPlace (resultOfCard (withDuct 61) 15) ≡ 0 ∷ 0 ∷ []
-  pub X-5033165 : frictionOfCard (withDuct 62) ≡ 5033165
-  pub X-5033165-refused : numberAndPlace (resultOfCard (withDuct 62) 15) ≡ 4 ∷ 2 ∷ []
+  -- document 02, W3: "the edge pair moves to 25,165,824 and 25,165,825", where refusal 4 place 2 begins
+  pub X-25165824 : frictionOfCard (withDuct 183) ≡ 25165824
+  pub X-25165824-passes : numberAndPlace (resultOfCard (withDuct 183) 15) ≡ 0 ∷ 0 ∷ []
+  pub X-25165825 : frictionOfCard (withDuct 184) ≡ 25165825
+  pub X-25165825-refused : numberAndPlace (resultOfCard (withDuct 184) 15) ≡ 4 ∷ 2 ∷ []
   -- "64 ages pass, 65 give 2", at field 24
   pub ages-64 : numberAndPlace (resultOfCard (withAges 64) 320) ≡ 0 ∷ 0 ∷ []
   pub ages-65 : numberAndPlace (resultOfCard (withAges 65) 325) ≡ 2 ∷ 24 ∷ []

@@ -7,8 +7,8 @@ use Rattle.ticks.specs.Ticks.{T}
 use Rattle.logarithm.specs.Logarithm.{serviceLife, lastThreshold}
 use Rattle.logarithm.specs.Table.{IsTable}
 use Rattle.member.specs.declared.Member.{Member}
-use Rattle.fields.specs.Limits.{strengths, mostMoment, mostKappa, mostAges}
-use Rattle.formulas.specs.Conditions.{stressLimit, frictionLimit, slipLimit, lengthLimit, deflectorLimit, leastStrength, esLimit}
+use Rattle.fields.specs.Limits.{strengths, mostMoment, mostFriction, mostKappa, mostAges}
+use Rattle.formulas.specs.Conditions.{stressLimit, slipLimit, lengthLimit, deflectorLimit, leastStrength, esLimit}
 use Rattle.formulas.specs.Conditions.{eciLimit, leastEc, ecLimit, leastInertia, mostMomentStress, eccentricityLimit, creepLimit}
 use Rattle.formulas.specs.Conditions.{shrinkageLimit, mostGain}
 use Rattle.stages.specs.declared.ends.End.{End}
@@ -33,7 +33,7 @@ pub record Bounded (m : Member) : Type 0 where
   pub inertia : leastInertia ≤ m .inertia
   pub eccentricity-fits : m .eccentricity < eccentricityLimit
   pub own-weight-fits : m .«own_weight_moment» ≤ mostMoment
-  pub friction-fits : m .friction < frictionLimit
+  pub friction-most : m .friction ≤ mostFriction
   pub kappa-fits : m .kappa ≤ mostKappa
   pub creep-fits : m .creep < creepLimit
   pub shrinkage-fits : m .shrinkage < shrinkageLimit

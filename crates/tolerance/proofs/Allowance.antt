@@ -6,13 +6,13 @@ use Prim.Native.Nat.{ℕ, _+_, _*_, _≤_}
 use native.Mathlib.Nat.{mul-le-mul}
 use native.Mathlib.Omega.{arith}
 use lib.Dec.{lit≤}
-use Rattle.fraction.specs.Fraction.{Fraction, whole, _⊕_, _⊗_, _≼_}
+use Rattle.fraction.specs.Fraction.{Fraction, whole, _⊕_, _⊗_, _÷_, _≼_}
 use Rattle.fraction.proofs.Laws.{≼-trans}
 use Rattle.ticks.specs.Ticks.{ticksPerUnit}
 use Rattle.coefficient.specs.declared.codes.Steel.{Steel}
 use Rattle.coefficient.specs.declared.codes.Steel.the-variants.{StressRelieved, LowRelaxation}
+use Rattle.fields.specs.Quantities.{Quantities}
 use Rattle.fields.specs.Limits.{range, mostOfStrength, hundredths, mostSegments, mostAges}
-use Rattle.tolerance.specs.Formulas.{_÷_}
 use Rattle.tolerance.specs.Method.{Choice, Admissible, tableChoice}
 use Rattle.tolerance.specs.Demand.{narrowStep, wideStep}
 use Rattle.tolerance.proofs.Logarithms.{mostAbove, Logs, table-logs, admissible-logs}
@@ -32,10 +32,10 @@ pub record Allowance (δ step : ℕ) (choice : Choice) : Type 0 where
   pub covers : ageErrorBy δ ≤ step
   pub step-most : step ≤ wideStep
 
-pub narrow-allowance : Allowance 0 narrowStep tableChoice
+pub narrow-allowance : {factor : ℕ → Fraction} → Allowance 0 narrowStep (tableChoice factor)
 narrow-allowance = record { logs = table-logs; covers = lit≤ tt; step-most = lit≤ tt }
 
-pub wide-allowance : {choice : Choice} → Admissible choice → Allowance mostAbove wideStep choice
+pub wide-allowance : {q : Quantities} {choice : Choice} → Admissible q choice → Allowance mostAbove wideStep choice
 wide-allowance admissible = record { logs = admissible-logs admissible; covers = lit≤ tt; step-most = lit≤ tt }
 
 -- the steps of the longest path and the most ages, with slip, early relaxation and shortening

@@ -11,7 +11,7 @@ use lib.Seq.{getD-append-add}
 use Rattle.fraction.specs.Fraction.{Fraction, whole, Within}
 use Rattle.fraction.proofs.Floors.{whole-order}
 use Rattle.fraction.proofs.Distances.{within-weaken}
-use Rattle.tolerance.specs.Demand.{each, Falls}
+use Rattle.tolerance.specs.Demand.{each}
 
 pub data Chain (step : ℕ) : ℕ → List ℕ → List Fraction → Type 0 where
   no-step : {k : ℕ} → Chain step k [] []
@@ -50,16 +50,10 @@ module _ {A : Type 0} (f : ℕ → A) where
   each-then count rest i d = rw each-length at (getD-append-add (each count f) rest i d)
 
 pub chain-each : (step count : ℕ) (f : ℕ → ℕ) (g : ℕ → Fraction) {xs : List ℕ} {ys : List Fraction}
-    → ((j : ℕ) → Within (whole (suc j * step)) (whole (f (suc j))) (g (suc j))) → Chain step count xs ys
+    → ((j : ℕ) → j < count → Within (whole (suc j * step)) (whole (f (suc j))) (g (suc j))) → Chain step count xs ys
     → Chain step 0 (each count f ++ xs) (each count g ++ ys)
 unfolding each
 chain-each step zero f g near chain = chain
 chain-each step (suc count) f g {xs} {ys} near chain =
-    rw (each-more f count xs, each-more g count ys) (chain-each step count f g near (one-step (near count) chain))
-
-pub falls-each : (count : ℕ) (f : ℕ → ℕ) (rest : List ℕ) → ((j : ℕ) → f (suc j) ≤ f j) → Falls (f count) rest
-    → Falls (f 0) (each count f ++ rest)
-unfolding each Falls
-falls-each zero f rest falling falls = falls
-falls-each (suc count) f rest falling falls =
-    rw (each-more f count rest) (falls-each count f (f (suc count) ∷ rest) falling (falling count, falls))
+    rw (each-more f count xs, each-more g count ys)
+    (chain-each step count f g (λ j h. near j (omega arith)) (one-step (near count (omega arith)) chain))

@@ -6,16 +6,16 @@ use Prim.Native.Nat.{ℕ, _*_, _/_, _≤_}
 use native.Mathlib.Nat.{le-trans, mul-le-mul, div-le-of-le-mul, sub-le}
 use native.Mathlib.Omega.{arith}
 use lib.Dec.{lit<, lit≤}
-use Rattle.fraction.specs.Fraction.{Fraction, whole, _⊕_, _⊖_, _⊗_, _≼_, Within}
+use Rattle.fraction.specs.Fraction.{Fraction, whole, _⊕_, _⊖_, _⊗_, _÷_, _≼_, Within}
 use Rattle.fraction.specs.Equality.{_≈_}
 use Rattle.fraction.proofs.Laws.{≈-refl, ≈-sym, ⊗-assoc, ⊗-not-negative, ⊖-cong, larger-right, larger-least, larger-cong}
 use Rattle.fraction.proofs.Certificate.{num, _⊟_, _⊠_, _⊑_, _⊢_, follows}
 use Rattle.fraction.proofs.Slopes.{hinge}
+use Rattle.fraction.proofs.Quotients.{quotient-not-negative}
 use Rattle.ticks.specs.Ticks.{ticksPerUnit}
 use Rattle.fields.specs.Limits.{range, mostKappa}
 use Rattle.formulas.specs.Steps.{concreteStress as ticksConcreteStress, kappaUnit}
-use Rattle.tolerance.specs.Formulas.{_÷_, concreteStress}
-use Rattle.tolerance.proofs.Quotients.{quotient-not-negative}
+use Rattle.tolerance.specs.Formulas.{concreteStress}
 use Rattle.tolerance.proofs.Rounded.{Rounded, rounded-part, rounded-difference}
 
 -- 0.80 F at the highest F, in ticks: no stress is above it

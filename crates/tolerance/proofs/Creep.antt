@@ -5,19 +5,19 @@ use mathlib.Core.Path.{refl}
 use mathlib.Core.List.{[], _∷_}
 use Prim.Native.Nat.{ℕ, _+_, _*_, _/_, _≤_}
 use lib.Dec.{lit<, lit≤}
-use Rattle.fraction.specs.Fraction.{Fraction, whole, _⊕_, _⊗_, _≼_, Within}
+use Rattle.fraction.specs.Fraction.{Fraction, whole, _⊕_, _⊗_, _÷_, _≼_, Within}
 use Rattle.fraction.specs.Equality.{_≈_}
 use Rattle.fraction.proofs.Laws.{≈-refl, ≈-sym, _⨾_, ≼-trans, ⊗-cong, ⊗-not-negative, whole-⊗}
 use Rattle.fraction.proofs.Certificate.{num, _⊞_, _⊠_, _⊑_, _≐_, _⊛_, _⊢_, follows, identity}
 use Rattle.fraction.proofs.Floors.{whole-order, whole-not-negative}
+use Rattle.fraction.proofs.Quotients.{quotient-not-negative}
 use Rattle.fraction.proofs.Distances.{within-weaken}
 use Rattle.fraction.proofs.Slopes.{SlowTo, hinge, slow-resp-≈, scaled-hinge-slow-to}
 use Rattle.ticks.specs.Ticks.{T}
 use Rattle.fields.specs.Limits.{mostKappa, mostCreepOfKappa}
 use Rattle.member.specs.Facts.{mostCreep}
 use Rattle.formulas.specs.Steps.{creepLoss as ticksCreepLoss, concreteStress as ticksConcreteStress}
-use Rattle.tolerance.specs.Formulas.{_÷_, concreteStress, creepLoss}
-use Rattle.tolerance.proofs.Quotients.{quotient-not-negative}
+use Rattle.tolerance.specs.Formulas.{concreteStress, creepLoss}
 use Rattle.tolerance.proofs.Rounded.{Rounded, product-near, rounded-not-negative}
 use Rattle.tolerance.proofs.Shares.{Share, partError, constant-top, part-near}
 use Rattle.tolerance.proofs.Concrete.{highestStress, highestConcrete, kappaError, concreteError, perKappaUnit}

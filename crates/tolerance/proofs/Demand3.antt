@@ -3,35 +3,37 @@
 -- step. That no stress rises before the ages and none by more than its gain at them, that the losses and the last stress add up to the
 -- jacking stress and the gains, and that the numbers are those reported, is read off the run. Assumes nothing.
 use mathlib.Core.Path.{_≡_, _∙_}
-use mathlib.Core.List.{List, [], _∷_, _++_, append-assoc}
-use Prim.Native.Nat.{ℕ, suc, _+_, _-_, _*_, _≤_}
-use native.Mathlib.Nat.{le-refl, le-trans, min-le-left, mul-le-mul-left, mul-le-mul-right}
+use mathlib.Core.List.{List, _∷_, _++_}
+use Prim.Native.Nat.{ℕ, suc, _+_, _-_, _*_, _≤_, _<_}
+use native.Mathlib.Nat.{le-refl, le-trans, min-eq-left, mul-le-mul-left, mul-le-mul-right}
 use native.Mathlib.Omega.{arith}
-use lib.Dec.{lit≤}
 use lib.ListN.{length, getD, take, length-take}
 use lib.Seq.{take-all}
 use Rattle.fraction.specs.Fraction.{whole, larger, Within}
 use Rattle.fraction.proofs.Laws.{≈-sym, ≼-trans, ≼-of-≈, whole-⊕, zero-⊕, larger-left, larger-right}
 use Rattle.fraction.proofs.Floors.{whole-order}
 use Rattle.fraction.proofs.Distances.{within-weaken}
-use Rattle.ticks.specs.Ticks.{T}
 use Rattle.fields.specs.Outcomes.{Gives}
 use Rattle.fields.specs.Quantities.{Quantities}
-use Rattle.fields.specs.Limits.{mostSegments, mostAges}
+use Rattle.fields.specs.Limits.{mostSegments, mostAges, mostFriction}
+use Rattle.exponential.specs.Factor.{powers}
+use Rattle.exponential.specs.Series.{sumTo}
+use Rattle.exponential.proofs.Series.{series}
+use Rattle.formulas.proofs.Laws.{stress-left-most}
 use Rattle.member.specs.Constants.{pathFriction, jacked, stressAlong as ticksAlong}
 use Rattle.member.specs.Member.{memberOf, frictionOf}
-use Rattle.member.specs.Facts.{Facts}
+use Rattle.member.specs.Facts.{SegmentsFit, Facts}
 use Rattle.stages.specs.declared.before.BeforeAges.{BeforeAges}
 use Rattle.stages.specs.Run.{Report, memberResult}
-use Rattle.tolerance.specs.Method.{Choice, stressAlong, afterDeflector}
+use Rattle.tolerance.specs.Method.{Choice, exponentAlong, FactorsAlong, stressAlong, afterDeflector}
 use Rattle.tolerance.specs.Demand.{stepsOf, each, exactAfterSlip, exactStresses, coreAfterSlip, coreAfterDeflector, coreAfterEarly}
 use Rattle.tolerance.specs.Demand.{stressesOf, coreBeforeAges, coreStresses, Close, Falls, Linked, Demand3, lossesBefore}
 use Rattle.tolerance.specs.Demand.{lossesOfRows, gainsOfRows}
-use Rattle.tolerance.proofs.Path.{pathError, friction-of-part, segments-fit-take, friction-leaves, path-close, stress-falls}
+use Rattle.tolerance.proofs.Path.{pathError, friction-of-part, segments-fit-take, exponent-not-negative, exponent-most, path-close}
 use Rattle.tolerance.proofs.Concrete.{highestStress}
 use Rattle.tolerance.proofs.Bounds.{low, low-top}
 use Rattle.tolerance.proofs.Allowance.{Allowance, narrow-allowance, wide-allowance}
-use Rattle.tolerance.proofs.Chains.{Chain, one-step, chain-at, chain-lengths, chain-each, falls-each}
+use Rattle.tolerance.proofs.Chains.{Chain, one-step, chain-at, chain-lengths, chain-each}
 use Rattle.tolerance.proofs.Chains.{each-length-then, each-then}
 use Rattle.tolerance.proofs.Run.{Began, AgesRun, run, ages-rise, ages-close-up, ages-end, rows-count, stresses-count}
 use Rattle.tolerance.proofs.Distance.{slip-keeps-distance, deflector-keeps-distance}
@@ -44,36 +46,44 @@ module _ {q : Quantities} {report scratch : ℕ} (facts : Facts q report scratch
   abbrev before : BeforeAges
   before = given .before
 
-  -- the core's stresses after the path: before the ages, and all of them
-  abbrev toAges : List ℕ
-  toAges = coreAfterSlip q before ∷ coreAfterEarly q before ∷ before .stress ∷ []
-
+  -- the core's stresses after the path
   abbrev rest : List ℕ
-  rest = toAges ++ stressesOf (given .rows)
+  rest = coreBeforeAges q before ++ stressesOf (given .rows)
 
   -- the core's stress after so many segments
   abbrev along : ℕ → ℕ
   along j = ticksAlong q (take j (q .path))
 
-  in-parts : coreStresses q given ≡ each (length (q .path)) along ++ rest
-  in-parts = append-assoc (each (length (q .path)) along) toAges (stressesOf (given .rows))
-
   count : length (coreStresses q given) ≡ stepsOf q
-  count =
-      rw in-parts (omega (arith, each-length-then along (length (q .path)) rest, stresses-count (given .rows), rows-count ran))
+  count = omega (arith, each-length-then along (length (q .path)) rest, stresses-count (given .rows), rows-count ran)
 
   -- ---- near after every step
 
   jacked-low : jacked q ≤ highestStress
   jacked-low = low-top facts (jacked q) (low facts (jacked q) (le-refl (jacked q)))
 
-  friction-fits : frictionOf q ≤ T
-  friction-fits = le-trans (facts .friction-most) (lit≤ tt)
+  part-fits : (j : ℕ) → SegmentsFit (take j (q .path))
+  part-fits j = segments-fit-take j (facts .segments-fit)
 
-  part-fits : (j : ℕ) → pathFriction (q .wobble) (q .curvature) (take j (q .path)) ≤ T
-  part-fits j = le-trans (friction-of-part (q .wobble) (q .curvature) (q .path) j) friction-fits
+  part-count : (j : ℕ) → j ≤ length (q .path) → length (take j (q .path)) ≡ j
+  part-count j h = rw length-take (min-eq-left h)
 
-  module _ {δ step : ℕ} {choice : Choice} (allowed : Allowance δ step choice) where
+  part-few : (j : ℕ) → j ≤ length (q .path) → length (take j (q .path)) ≤ mostSegments
+  part-few j h = rw (part-count j h) (le-trans h few-segments)
+
+  part-most : (j : ℕ) → pathFriction (q .wobble) (q .curvature) (take j (q .path)) ≤ mostFriction
+  part-most j = le-trans (friction-of-part (q .wobble) (q .curvature) (q .path) j) (facts .friction-most)
+
+  some-factors : FactorsAlong q (λ j. sumTo powers (exponentAlong q j))
+  some-factors j h =
+      let part = take j (q .path) in
+      series .some-taken (exponentAlong q j) (exponent-not-negative q part (part-fits j) (part-few j h) (part-most j))
+      (exponent-most q part (part-fits j) (part-few j h) (part-most j))
+
+  end-of-path : jacked q - before .friction ≡ ticksAlong q (q .path)
+  end-of-path = omega (arith, began .friction, stress-left-most (jacked q) (frictionOf q))
+
+  module _ {δ step : ℕ} {choice : Choice} (allowed : Allowance δ step choice) (factors : FactorsAlong q (choice .factor)) where
     -- a segment, and slip, are well within a step each
     segment-covered : pathError 1 ≤ step
     segment-covered = let covers = allowed .covers in omega arith
@@ -81,25 +91,27 @@ module _ {q : Quantities} {report scratch : ℕ} (facts : Facts q report scratch
     slip-covered : (segments : ℕ) → slipError + pathError segments ≤ suc segments * step
     slip-covered segments = omega (arith, mul-le-mul-left (suc segments) segment-covered)
 
-    along-path : (j : ℕ)
-        → Within (whole (suc j * step)) (whole (along (suc j))) (stressAlong choice q (take (suc j) (q .path)))
-    along-path j =
-        let part = take (suc j) (q .path) in
-        let most : length part ≤ suc j = rw length-take (min-le-left (suc j) (length (q .path))) in
-        within-weaken (whole-order (omega (arith, mul-le-mul-left (suc j) segment-covered)))
-        (path-close q part (part-fits (suc j)) choice jacked-low (segments-fit-take (suc j) (facts .segments-fit)))
+    -- after the first j segments
+    along-close : (j : ℕ) → j ≤ length (q .path) → Within (whole (pathError j)) (whole (along j)) (stressAlong choice q j)
+    along-close j h =
+        rw (part-count j h) at
+        (path-close q (take j (q .path)) (part-fits j) (part-few j h) (part-most j) jacked-low (factors j h))
+
+    along-path : (j : ℕ) → j < length (q .path) → Within (whole (suc j * step)) (whole (along (suc j))) (stressAlong choice q (suc j))
+    along-path j h =
+        within-weaken (whole-order (omega (arith, mul-le-mul-left (suc j) segment-covered))) (along-close (suc j) h)
 
     after-slip : Within (whole (suc (length (q .path)) * step)) (whole (coreAfterSlip q before)) (exactAfterSlip choice q)
     after-slip =
         let segments = length (q .path) in
         let x = ticksAlong q (q .path) in
-        let y = stressAlong choice q (q .path) in
-        rw (began .friction, began .slip)
+        let y = stressAlong choice q segments in
+        rw (end-of-path, began .slip)
         (within-weaken
         (≼-trans (≼-of-≈ (≈-sym (whole-⊕ slipError (pathError segments)))) (whole-order (slip-covered segments)))
         (step-close (slip-keeps-distance choice q (larger (whole x) y)) (larger-left (whole x) y) (larger-right (whole x) y)
-        (after-slip-near facts choice x (omega (arith, began .closes, began .friction, began .slip)))
-        (path-close q (q .path) friction-fits choice jacked-low (facts .segments-fit))))
+        (after-slip-near facts choice x (omega (arith, began .closes, began .slip, end-of-path)))
+        (rw (take-all segments (q .path) (le-refl segments)) at (along-close segments (le-refl segments)))))
 
     after-deflector : Within (whole (suc (length (q .path)) * step)) (whole (coreAfterDeflector q before))
         (afterDeflector choice q (exactAfterSlip choice q))
@@ -112,10 +124,9 @@ module _ {q : Quantities} {report scratch : ℕ} (facts : Facts q report scratch
 
     chain : Chain step 0 (coreStresses q given) (exactStresses choice q)
     chain =
-        rw in-parts
-        (chain-each step (length (q .path)) along (λ j. stressAlong choice q (take j (q .path))) along-path
+        chain-each step (length (q .path)) along (stressAlong choice q) along-path
         (one-step after-slip
-        (after-slip-close facts allowed began ran (suc (length (q .path))) (exactAfterSlip choice q) (omega arith) after-slip)))
+        (after-slip-close facts allowed began ran (suc (length (q .path))) (exactAfterSlip choice q) (omega arith) after-slip))
 
     close : Close step choice q given
     close = record {
@@ -127,21 +138,9 @@ module _ {q : Quantities} {report scratch : ℕ} (facts : Facts q report scratch
 
   -- ---- the run's own numbers
 
-  start-of-path : along 0 ≡ jacked q
-  unfolding pathFriction
-  start-of-path = omega arith
-
-  end-of-path : along (length (q .path)) ≡ jacked q - before .friction
-  end-of-path = rw (began .friction, take-all (length (q .path)) (q .path) (le-refl (length (q .path))))
-
-  to-ages-fall : Falls (jacked q - before .friction) toAges
+  falls : Falls (jacked q) (ticksAlong q (q .path) ∷ coreBeforeAges q before)
   unfolding Falls
-  to-ages-fall = let adds-up = began .closes in (omega arith, (omega arith, (omega arith, tt)))
-
-  falls : Falls (jacked q) (coreBeforeAges q before)
-  falls =
-      rw start-of-path at
-      (falls-each (length (q .path)) along toAges (λ j. stress-falls q j (suc j) (omega arith)) (rw end-of-path to-ages-fall))
+  falls = let adds-up = began .closes in (omega (arith, end-of-path), (omega (arith, end-of-path), (omega arith, (omega arith, tt))))
 
   closes : jacked q + gainsOfRows (given .rows) ≡ given .last + lossesBefore before + lossesOfRows (given .rows)
   closes = omega (arith, began .closes, ages-close-up ran)
@@ -149,12 +148,11 @@ module _ {q : Quantities} {report scratch : ℕ} (facts : Facts q report scratch
   reported-last : getD (coreStresses q given) (length (q .path) + length (q .ages) + 2) 0 ≡ given .last
   reported-last =
       let place : length (q .path) + length (q .ages) + 2 ≡ length (q .path) + suc (suc (length (q .ages))) = omega arith in
-      rw (in-parts, place, each-then along (length (q .path)) rest (suc (suc (length (q .ages)))) 0) (ages-end ran)
+      rw (place, each-then along (length (q .path)) rest (suc (suc (length (q .ages)))) 0) (ages-end ran)
 
   linked : Linked q given
   linked = record {
-    path = λ j h. omega (arith, friction-leaves q (take j (q .path)) (part-fits j));
-    path-end = omega (arith, began .friction, began .closes);
+    path-end = omega (arith, end-of-path, began .closes);
     reply = omega (arith, began .closes);
     rows-count = rows-count ran;
     last = reported-last;
@@ -166,8 +164,9 @@ pub demand-3 : (q : Quantities) (report scratch : ℕ) → length (q .path) ≤ 
 demand-3 q report scratch few-segments few-ages facts given result =
     let (began, ran) = run q given result in
     record {
-      narrow = close facts few-segments few-ages began ran narrow-allowance;
-      wide = λ choice admissible. close facts few-segments few-ages began ran (wide-allowance admissible);
+      narrow = λ factor factors. close facts few-segments few-ages began ran narrow-allowance factors;
+      wide = λ choice admissible. close facts few-segments few-ages began ran (wide-allowance admissible) (admissible .factors);
+      some-factors = some-factors facts few-segments few-ages began ran;
       falls = falls facts few-segments few-ages began ran;
       rises = ages-rise facts ran;
       closes = closes facts few-segments few-ages began ran;

@@ -7,7 +7,7 @@ use Prim.Native.Nat.{ℕ, _+_, _*_}
 use native.Mathlib.Nat.{le-trans}
 use native.Mathlib.Omega.{arith}
 use lib.Dec.{lit≤}
-use Rattle.fraction.specs.Fraction.{Fraction, whole, _⊕_, _⊖_, _≼_}
+use Rattle.fraction.specs.Fraction.{Fraction, whole, _⊕_, _⊖_, _≼_, _÷_}
 use Rattle.fraction.proofs.Certificate.{num, _⊟_, _⊑_, _⊢_, follows}
 use Rattle.fraction.proofs.Floors.{whole-order, whole-not-negative}
 use Rattle.fraction.proofs.Slopes.{KeepsDistance, constant-keeps-distance, raised-keeps-distance, part-keeps-distance}
@@ -18,7 +18,7 @@ use Rattle.coefficient.specs.declared.codes.Kind.the-variants.{Pretensioned, Po
 use Rattle.fields.specs.Quantities.{Quantities, Age}
 use Rattle.member.specs.Member.{kindOf, steelOf, kappaOf, creepOf}
 use Rattle.member.specs.Facts.{RisingFrom, no-age, rises, Facts}
-use Rattle.tolerance.specs.Formulas.{_÷_, kappa, wholeCreep, wholeShrinkage, slipLoss, relaxationLoss, concreteStress}
+use Rattle.tolerance.specs.Formulas.{kappa, wholeCreep, wholeShrinkage, slipLoss, relaxationLoss, concreteStress}
 use Rattle.tolerance.specs.Formulas.{shorteningLoss, creepLoss, shrinkageLoss}
 use Rattle.tolerance.specs.Method.{Choice, End, endAt, transferEnd, earlyRelaxation, afterSlip, afterDeflector, afterEarly}
 use Rattle.tolerance.specs.Method.{afterShortening, afterAge, ageSteps, stepsAfterSlip}

@@ -3,13 +3,13 @@
 use Prim.Native.Nat.{ℕ, _+_, _-_, _*_, _/_, _≤_, _<_}
 use native.Mathlib.Nat.{le-refl}
 use native.Mathlib.Omega.{arith}
-use Rattle.fraction.specs.Fraction.{Fraction, whole, _⊕_, _⊖_, _⊗_, _≼_, Within}
+use Rattle.fraction.specs.Fraction.{Fraction, whole, _⊕_, _⊖_, _⊗_, _÷_, _≼_, Within}
 use Rattle.fraction.proofs.Laws.{≈-refl, ≈-sym, ≼-refl}
 use Rattle.fraction.proofs.Floors.{whole-not-negative, whole-difference}
 use Rattle.fraction.proofs.Distances.{within-refl, within-weaken, within-resp-≈}
 use Rattle.fields.specs.Limits.{range}
 use Rattle.formulas.specs.Steps.{momentGain as ticksMomentGain}
-use Rattle.tolerance.specs.Formulas.{_÷_, momentGain}
+use Rattle.tolerance.specs.Formulas.{momentGain}
 use Rattle.tolerance.proofs.Rounded.{Rounded, product-near, difference-near}
 
 -- Es over Ec, at the most

@@ -1,4 +1,3 @@
-pub mod Quotients
 pub mod Rounded
 pub mod Concrete
 pub mod Path

@@ -12,6 +12,7 @@ use Rattle.fraction.proofs.Distances.{within-resp-≈}
 use Rattle.fraction.proofs.Certificate.{num, _⊞_, _⊟_, _⊑_, _⊢_, follows}
 use Rattle.logarithm.specs.Logarithm.{logarithm, serviceLife}
 use Rattle.logarithm.proofs.Laws.{never-falls, at-service-life}
+use Rattle.fields.specs.Quantities.{Quantities}
 use Rattle.tolerance.specs.Method.{Choice, Admissible, tableChoice}
 
 -- the most that a choice may lie above the table
@@ -33,7 +34,7 @@ pub record Logs (δ : ℕ) (choice : Choice) : Type 0 where
   pub most : (hour : ℕ) → 1 ≤ hour → hour ≤ serviceLife → choice .log hour ≼ whole (logarithm hour + δ)
   pub rises : (hour later : ℕ) → 1 ≤ hour → hour ≤ later → later ≤ serviceLife → choice .log hour ≼ choice .log later
 
-pub table-logs : Logs 0 tableChoice
+pub table-logs : {factor : ℕ → Fraction} → Logs 0 (tableChoice factor)
 table-logs = record {
   small = lit≤ tt;
   least = λ hour some life. whole-order (omega arith);
@@ -41,7 +42,7 @@ table-logs = record {
   rises = λ hour later some le life. whole-order (never-falls hour later le);
 }
 
-pub admissible-logs : {choice : Choice} → Admissible choice → Logs mostAbove choice
+pub admissible-logs : {q : Quantities} {choice : Choice} → Admissible q choice → Logs mostAbove choice
 admissible-logs admissible = record {
   small = lit≤ tt;
   least = admissible .least;

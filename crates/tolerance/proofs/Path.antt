@@ -1,41 +1,53 @@
--- Friction along the tendon's path: the stress in ticks beside the stress without rounding, both from the jacking stress. Each
--- segment adds two parts to X, each rounded down, so that X is short by at most 2 for each segment. The jacking stress is less than
--- 15 T, so that 2 of X are less than 30 ticks of stress; and the loss itself is rounded down once. Assumes nothing.
+-- Friction along the tendon's path: the stress in ticks beside the stress without rounding, both from the jacking stress. Each segment
+-- adds two parts to X, each rounded down, so that X is short by at most 2 for each segment, and so is T times the 15th sum; the factor is
+-- off by 2.5 units more, and the one taken in fractions by 1. The jacking stress is less than 15 T, so that a unit is less than 15 ticks of
+-- stress; and the stress left is rounded down once. Assumes nothing.
 use mathlib.Core.Path.{_≡_, refl}
 use mathlib.Core.Bool.{Bool, true, false, cond}
 use mathlib.Core.List.{List, [], _∷_}
 use Prim.Native.Nat.{ℕ, zero, suc, _+_, _*_, _/_, _≤_}
-use native.Mathlib.Nat.{le-trans, le-of-eq, mul-pos, mul-le-mul-left, div-mul-le-self, div-le-of-le-mul, le-div-iff-mul-le}
-use native.Mathlib.Nat.{mul-comm, sub-le-sub-left}
+use native.Mathlib.Nat.{le-trans, mul-pos}
 use native.Mathlib.Omega.{arith}
 use lib.Dec.{eqb, lit<, lit≤}
 use lib.ListN.{length, take}
 use borrow.Author.Tests.{eqb-true}
-use Rattle.fraction.specs.Fraction.{Fraction, whole, _⊕_, _⊗_, _≼_, Within}
-use Rattle.fraction.proofs.Floors.{whole-order, whole-not-negative}
+use Rattle.fraction.specs.Fraction.{Fraction, whole, _⊕_, _⊗_, _÷_, _≼_, Within}
+use Rattle.fraction.specs.Equality.{_≈_}
+use Rattle.fraction.proofs.Laws.{≈-refl, ≈-sym, _⨾_, ≼-trans, ≼-of-≈, ⊗-cong, ⊗-not-negative, one-⊗, whole-⊕, whole-⊗}
+use Rattle.fraction.proofs.Floors.{whole-order, whole-not-negative, whole-cancel}
+use Rattle.fraction.proofs.Quotients.{quotient-not-negative, quotient-times}
+use Rattle.fraction.proofs.Distances.{within-refl, within-weaken, within-resp-≈}
+use Rattle.fraction.proofs.Certificate.{num, _⊞_, _⊠_, _⊑_, _≐_, _⊛_, _⊢_, follows, identity}
 use Rattle.ticks.specs.Ticks.{ticksPerUnit, T}
+use Rattle.exponential.specs.Factor.{factor}
+use Rattle.exponential.specs.Series.{BySeries}
+use Rattle.exponential.proofs.Turns.{factor-most}
+use Rattle.exponential.proofs.Series.{factorError, factor-near}
 use Rattle.fields.specs.Quantities.{Quantities, Segment, parabola, bend}
+use Rattle.fields.specs.Limits.{mostSegments, mostFriction}
 use Rattle.member.specs.Constants.{million, pathFriction as ticksFriction, wobblePart as ticksWobble}
-use Rattle.member.specs.Constants.{curvaturePart as ticksCurvature, jacked, frictionAlong, stressAlong as ticksAlong}
+use Rattle.member.specs.Constants.{curvaturePart as ticksCurvature, jacked, stressAlong as ticksAlong}
 use Rattle.member.specs.Facts.{SegmentFits, SegmentsFit, no-segment, segment-fits}
-use Rattle.formulas.specs.Steps.{frictionLoss}
-use Rattle.tolerance.specs.Formulas.{_÷_, wobblePart, curvaturePart, pathFriction}
-use Rattle.tolerance.specs.Method.{Choice, stressAlong}
-use Rattle.tolerance.proofs.Rounded.{Rounded, rounded-weaken, rounded-exact, rounded-whole-sum, rounded-within}
-use Rattle.tolerance.proofs.Rounded.{floor-rounded, rounded-part, taken-off}
+use Rattle.tolerance.specs.Formulas.{wobblePart, curvaturePart, pathFriction}
+use Rattle.tolerance.proofs.Rounded.{Rounded, rounded-weaken, rounded-exact, rounded-whole-sum, rounded-not-negative}
+use Rattle.tolerance.proofs.Rounded.{floor-rounded, product-near}
 use Rattle.tolerance.proofs.Concrete.{highestStress}
 
 -- the parts of X that a segment has, each a division
 abbrev partsOfSegment : ℕ
 partsOfSegment = 2
 
--- the highest stress over T, rounded up: what a unit of X costs
+-- the highest stress over T, rounded up: what a unit of the factor costs
 abbrev stressPerUnit : ℕ
 stressPerUnit = highestStress / T + 1
 
--- what X is off by costs along so many segments, and a division
+-- what the factor and the one taken in fractions are off by, rounded up
+abbrev unitsOfFactors : ℕ
+unitsOfFactors = 4
+
+-- what X and the factors are off by costs along so many segments, and a division
 abbrev pub pathError : ℕ → ℕ
-pathError segments = 1 + stressPerUnit * (partsOfSegment * segments)
+pathError segments = 1 + stressPerUnit * (partsOfSegment * segments + unitsOfFactors)
 
 -- ---- X
 
@@ -70,15 +82,6 @@ module _ (wobble curvature : ℕ) where
       (rounded-whole-sum partsOfSegment (partsOfSegment * length segments)
       (rounded-whole-sum 1 1 (wobble-rounded segment) (curvature-rounded segment fits)) (path-rounded rest))
 
-  -- X grows with the segments
-  friction-rises : (path : List Segment) (j k : ℕ) → j ≤ k
-      → ticksFriction wobble curvature (take j path) ≤ ticksFriction wobble curvature (take k path)
-  unfolding ticksFriction
-  friction-rises path zero k h = omega arith
-  friction-rises path (suc j) zero h = omega arith
-  friction-rises [] (suc j) (suc k) h = omega arith
-  friction-rises (segment ∷ segments) (suc j) (suc k) h = omega (arith, friction-rises segments j k (omega arith))
-
   -- the first j segments have no more friction than all
   pub friction-of-part : (path : List Segment) (j : ℕ)
       → ticksFriction wobble curvature (take j path) ≤ ticksFriction wobble curvature path
@@ -94,32 +97,49 @@ segments-fit-take (suc j) (segment-fits fits rest) = segment-fits fits (segments
 
 -- ---- the stress along the path
 
-friction-room : (jacked n : ℕ) → jacked ≤ highestStress
-    → whole 1 ⊕ whole jacked ⊗ whole (partsOfSegment * n) ⊗ (1 ÷ T) ≼ whole (pathError n)
+-- what the units cost at the highest stress, and the division of the stress left
+units-room : (n : ℕ)
+    → whole 1 ⊕ (1 ÷ T) ⊗ (whole 0 ⊗ whole T ⊕ whole highestStress ⊗ (factorError ⊕ (whole (partsOfSegment * n) ⊕ whole 1)))
+    ≼ whole (pathError n)
 unfolding _÷_ whole _⊕_ _⊗_
-friction-room jacked n h = record { at-most = omega (arith, mul-le-mul-left n h) }
+units-room n = record { at-most = omega arith }
 
-module _ (q : Quantities) (segments : List Segment) (fits : ticksFriction (q .wobble) (q .curvature) segments ≤ T) where
-  -- no friction up to T takes more than the whole stress
-  pub friction-leaves : frictionAlong q segments ≤ jacked q
-  friction-leaves = div-le-of-le-mul T (le-trans (mul-le-mul-left (jacked q) fits) (le-of-eq (mul-comm (jacked q) T)))
+module _ (q : Quantities) (segments : List Segment) (fits : SegmentsFit segments) (few : length segments ≤ mostSegments)
+    (most : ticksFriction (q .wobble) (q .curvature) segments ≤ mostFriction) where
+  abbrev X : ℕ
+  X = ticksFriction (q .wobble) (q .curvature) segments
 
-  pub path-close : (choice : Choice) → jacked q ≤ highestStress → SegmentsFit segments
-      → Within (whole (pathError (length segments))) (whole (ticksAlong q segments)) (stressAlong choice q segments)
-  path-close choice small fit =
-      taken-off friction-leaves
-      (rounded-within (whole-not-negative (pathError (length segments)))
-      (rounded-part (jacked q) T (whole (pathError (length segments))) (lit< tt) (path-rounded (q .wobble) (q .curvature) fit)
-      (friction-room (jacked q) (length segments) small)))
+  abbrev exact : Fraction
+  exact = pathFriction (q .wobble) (q .curvature) segments
 
--- no stress along the path rises
-pub stress-falls : (q : Quantities) (j k : ℕ) → j ≤ k → ticksAlong q (take k (q .path)) ≤ ticksAlong q (take j (q .path))
-stress-falls q j k h =
-    sub-le-sub-left
-    (loss-rises (ticksFriction (q .wobble) (q .curvature) (take j (q .path)))
-    (ticksFriction (q .wobble) (q .curvature) (take k (q .path)))
-    (friction-rises (q .wobble) (q .curvature) (q .path) j k h)) (jacked q)
-  where
-    loss-rises : (X Y : ℕ) → X ≤ Y → frictionLoss (jacked q) X ≤ frictionLoss (jacked q) Y
-    loss-rises X Y l = le-div-iff-mul-le {k = T} {x = jacked q * X / T} {y = jacked q * Y} (lit< tt) .1
-        (le-trans (div-mul-le-self (jacked q * X) T) (mul-le-mul-left (jacked q) l))
+  X-rounded : Rounded (whole (partsOfSegment * length segments)) X exact
+  X-rounded = path-rounded (q .wobble) (q .curvature) fits
+
+  unit : whole T ⊗ (1 ÷ T) ≈ whole 1
+  unit = quotient-times 1 T (lit< tt)
+
+  pub exponent-not-negative : whole 0 ≼ exact ⊗ (1 ÷ T)
+  exponent-not-negative = ⊗-not-negative (rounded-not-negative X-rounded) (quotient-not-negative 1 T)
+
+  -- the unrounded X passes 1.5 T by two for each segment at the most
+  pub exponent-most : exact ⊗ (1 ÷ T) ≼ whole 2
+  exponent-most = whole-cancel T (lit< tt)
+      (follows (whole T ∷ 1 ÷ T ∷ whole X ∷ exact ∷ whole (partsOfSegment * length segments) ∷ whole (T * 2) ∷ [])
+      (λ N Q A Y D M. Y ⊑ A ⊞ D ∷ A ⊞ D ⊑ M ∷ M ⊑ N ⊠ num 2 ∷ (num 0 ⊑ Y) ⊛ (N ⊠ Q ≐ num 1) ∷ [] ⊢ N ⊠ (Y ⊠ Q) ⊑ N ⊠ num 2) tt
+      (X-rounded .greatest)
+      (≼-trans (≼-of-≈ (≈-sym (whole-⊕ X (partsOfSegment * length segments)))) (whole-order (omega arith)))
+      (≼-of-≈ (whole-⊗ T 2)) (rounded-not-negative X-rounded, unit))
+
+  pub path-close : {φ : Fraction} → jacked q ≤ highestStress → BySeries (exact ⊗ (1 ÷ T)) φ
+      → Within (whole (pathError (length segments))) (whole (ticksAlong q segments)) (whole (jacked q) ⊗ φ)
+  path-close {φ} small taken =
+      within-weaken (units-room (length segments))
+      (within-resp-≈ ≈-refl cancelled
+      (product-near (jacked q) (factor X) T T highestStress (lit< tt) (factor-most X) (whole-not-negative (jacked q))
+      (whole-order small) (within-refl (whole (jacked q)))
+      (factor-near X most exact (whole (partsOfSegment * length segments)) φ (X-rounded .least) (X-rounded .greatest) exponent-most taken)))
+    where
+      cancelled : whole (jacked q) ⊗ (whole T ⊗ φ) ⊗ (1 ÷ T) ≈ whole (jacked q) ⊗ φ
+      cancelled =
+          identity (whole (jacked q) ∷ whole T ∷ φ ∷ 1 ÷ T ∷ []) (λ F N P Q. F ⊠ (N ⊠ P) ⊠ Q ≐ F ⊠ (N ⊠ Q ⊠ P)) tt
+          ⨾ ⊗-cong ≈-refl (⊗-cong unit ≈-refl ⨾ one-⊗ φ)

@@ -8,10 +8,11 @@ use Prim.Native.Nat.{ℕ, _+_, _-_, _*_, _/_, _≤_, _<_, max}
 use native.Mathlib.Nat.{le-refl, mul-le-mul-left, mul-div-le, lt-mul-div-succ, div-le-of-le-mul}
 use native.Mathlib.Omega.{arith}
 use lib.Dec.{lit<, lit≤}
-use Rattle.fraction.specs.Fraction.{Fraction, whole, _⊕_, _⊖_, _⊗_, opposite, _≼_, larger, Within}
+use Rattle.fraction.specs.Fraction.{Fraction, whole, _⊕_, _⊖_, _⊗_, _÷_, inverse, opposite, _≼_, larger, Within}
 use Rattle.fraction.specs.Equality.{over, _≈_}
 use Rattle.fraction.proofs.Laws.{≈-refl, ≈-sym, _⨾_, ≼-of-≈, ≼-resp-≈, ⊗-cong, ⊗-not-negative, whole-⊕, whole-⊗, larger-cases}
 use Rattle.fraction.proofs.Floors.{whole-order, whole-not-negative, over-times}
+use Rattle.fraction.proofs.Quotients.{quotient, quotient-not-negative, inverse-quotient}
 use Rattle.fraction.proofs.Distances.{within-refl, within-resp-≈, within-weaken, within-difference, within-larger}
 use Rattle.fraction.proofs.Certificate.{num, _⊞_, _⊠_, _⊑_, _⊛_, _⊢_, follows}
 use Rattle.ticks.specs.Ticks.{ticksPerUnit, T}
@@ -19,8 +20,7 @@ use Rattle.coefficient.specs.declared.codes.Steel.{Steel}
 use Rattle.coefficient.specs.declared.codes.Steel.the-variants.{StressRelieved, LowRelaxation}
 use Rattle.fields.specs.Limits.{range, mostOfStrength, hundredths}
 use Rattle.formulas.specs.Steps.{relaxationDivisor, relaxationFactor as ticksFactor, relaxationLoss as ticksRelaxationLoss}
-use Rattle.tolerance.specs.Formulas.{_÷_, inverse, relaxationFactor, relaxationLoss}
-use Rattle.tolerance.proofs.Quotients.{quotient, quotient-not-negative, inverse-quotient}
+use Rattle.tolerance.specs.Formulas.{relaxationFactor, relaxationLoss}
 use Rattle.tolerance.proofs.Rounded.{rounded-within, floor-rounded, product-near}
 use Rattle.tolerance.proofs.Concrete.{highestStress}
 use Rattle.tolerance.proofs.Logarithms.{mostRise, Interval, rise-not-negative, rise-top, rise-near}

@@ -5,11 +5,12 @@ use mathlib.Core.List.{[], _∷_}
 use Prim.Native.Nat.{ℕ, _*_, _≤_, _<_}
 use native.Mathlib.Omega.{arith}
 use lib.Dec.{lit<, lit≤}
-use Rattle.fraction.specs.Fraction.{Fraction, whole, _⊕_, _⊗_, _≼_}
+use Rattle.fraction.specs.Fraction.{Fraction, whole, _⊕_, _⊗_, _÷_, inverse, _≼_}
 use Rattle.fraction.specs.Equality.{_≈_}
 use Rattle.fraction.proofs.Laws.{≈-refl, ≈-sym, _⨾_, ≼-of-≈, ⊖-cong, ⊗-cong, ⊗-assoc, ⊗-mono, ⊗-mono-left}
 use Rattle.fraction.proofs.Laws.{one-⊗, ⊗-not-negative, larger-cong}
 use Rattle.fraction.proofs.Floors.{whole-not-negative}
+use Rattle.fraction.proofs.Quotients.{quotient-not-negative, quotient-order, inverse-cancels, inverse-not-negative}
 use Rattle.fraction.proofs.Certificate.{_⊞_, _⊠_, _⊑_, _≐_, _⊛_, _⊢_, follows, identity}
 use Rattle.fraction.proofs.Slopes.{SlowTo, hinge, slow-resp-≈, relaxation-slow-to}
 use Rattle.ticks.specs.Ticks.{ticksPerUnit, T}
@@ -17,9 +18,7 @@ use Rattle.coefficient.specs.declared.codes.Steel.{Steel}
 use Rattle.coefficient.specs.declared.codes.Steel.the-variants.{StressRelieved, LowRelaxation}
 use Rattle.fields.specs.Limits.{range}
 use Rattle.formulas.specs.Steps.{relaxationDivisor}
-use Rattle.tolerance.specs.Formulas.{_÷_, inverse, yield, relaxationLoss}
-use Rattle.tolerance.proofs.Quotients.{quotient-not-negative, quotient-order, inverse-cancels}
-use Rattle.tolerance.proofs.Rounded.{inverse-not-negative}
+use Rattle.tolerance.specs.Formulas.{yield, relaxationLoss}
 use Rattle.tolerance.proofs.Logarithms.{mostRise}
 use Rattle.tolerance.proofs.Relaxation.{yieldPart, leastDivisor, exactLoss}
 

@@ -6,17 +6,14 @@ use mathlib.Core.List.{[], _∷_}
 use Prim.Native.Nat.{ℕ, _+_, _*_, _/_, _-_, _≤_, _<_, max}
 use native.Mathlib.Nat.{mul-div-le, lt-mul-div-succ}
 use native.Mathlib.Omega.{arith}
-use lib.Dec.{lit<}
-use Rattle.fraction.specs.Fraction.{Fraction, whole, _⊕_, _⊖_, _⊗_, _≼_, larger, Within}
-use Rattle.fraction.specs.Equality.{over, _≈_}
+use Rattle.fraction.specs.Fraction.{Fraction, whole, _⊕_, _⊖_, _⊗_, _÷_, _≼_, larger, Within}
+use Rattle.fraction.specs.Equality.{_≈_}
 use Rattle.fraction.proofs.Laws.{≈-refl, ≈-sym, _⨾_, ≼-trans, ≼-of-≈, ≼-resp-≈, ⊕-cong, ⊗-cong, ⊗-comm, whole-⊕}
 use Rattle.fraction.proofs.Certificate.{num, _⊞_, _⊟_, _⊠_, _⊑_, _⊛_, _⊢_, follows}
 use Rattle.fraction.proofs.Floors.{whole-order, whole-not-negative, whole-difference, whole-monus, floor-below, floor-above}
-use Rattle.fraction.proofs.Floors.{over-one, over-cancel}
+use Rattle.fraction.proofs.Quotients.{quotient, quotient-not-negative}
 use Rattle.fraction.proofs.Distances.{within-below, within-trans, within-resp-≈, within-scaled, within-product}
 use Rattle.fraction.proofs.Distances.{within-larger-constant}
-use Rattle.tolerance.specs.Formulas.{_÷_, inverse}
-use Rattle.tolerance.proofs.Quotients.{quotient, quotient-not-negative}
 
 -- n lies below x, by at most e
 pub record Rounded (e : Fraction) (n : ℕ) (x : Fraction) : Type 0 where
@@ -143,21 +140,3 @@ taken-off {e} {loss} {n} {l} fits near = within-resp-≈ (≈-sym (whole-differe
   above = follows (e ∷ loss ∷ whole n ∷ whole l ∷ []) (λ E A N L. A ⊑ L ⊞ E ∷ [] ⊢ N ⊟ L ⊑ N ⊟ A ⊞ E) tt (near .below);
   below = follows (e ∷ loss ∷ whole n ∷ whole l ∷ []) (λ E A N L. L ⊑ A ⊞ E ∷ [] ⊢ N ⊟ A ⊑ N ⊟ L ⊞ E) tt (near .above);
 })
-
--- ---- factors above 0
-
--- a factor above 0 on both sides of an order
-pub whole-cancel : {x y : Fraction} (k : ℕ) → 0 < k → whole k ⊗ x ≼ whole k ⊗ y → x ≼ y
-whole-cancel {x} {y} k h l = over-cancel k 1 (lit< tt) h (≼-resp-≈ (turn x) (turn y) l)
-  where
-    turn : (z : Fraction) → whole k ⊗ z ≈ z ⊗ over k 1 (lit< tt)
-    turn z = ⊗-comm (whole k) z ⨾ ⊗-cong ≈-refl (≈-sym (over-one k (lit< tt)))
-
--- 1 / x is not negative, and what is 1 at least is above 0
-pub inverse-not-negative : (x : Fraction) → whole 0 ≼ inverse x
-unfolding inverse whole
-inverse-not-negative x = record { at-most = omega arith }
-
-pub above-zero : (x : Fraction) → whole 1 ≼ x → x .down < x .up
-unfolding whole
-above-zero x h = omega (arith, h .at-most, x .positive)

@@ -15,7 +15,7 @@ use Rattle.fields.specs.Limits.{leastStress}
 use Rattle.fields.proofs.Onward.{through}
 use Rattle.member.specs.Member.{memberOf}
 use Rattle.member.specs.Facts.{Facts}
-use Rattle.member.specs.Constants.{jacked, frictionAlong}
+use Rattle.member.specs.Constants.{jacked, stressAlong as ticksAlong}
 use Rattle.formulas.specs.Steps.{slipLoss, deflectorTicks, momentGain}
 use Rattle.stages.specs.declared.before.BeforeAges.{BeforeAges}
 use Rattle.stages.specs.declared.ends.End.{End}
@@ -52,7 +52,7 @@ rises-on q number stress gain next e =
 
 -- the five losses, each from the stress before it, and the stress that they leave
 pub record Began (q : Quantities) (before : BeforeAges) : Type 0 where
-  pub friction : before .friction ≡ frictionAlong q (q .path)
+  pub friction : before .friction ≡ jacked q - ticksAlong q (q .path)
   pub slip : before .slip ≡ slipLoss (q .Es) (q .slip) (q .tendonLength)
   pub deflector : before .deflector ≡ deflectorTicks (q .deflectorLoss)
   pub early : before .«early_relaxation» ≡ earlyRelaxationOf (memberOf q) (coreAfterDeflector q before)
@@ -69,7 +69,7 @@ begun : (q : Quantities) {before : BeforeAges} → begunOf (memberOf q) ≡ Give
 unfolding begunOf seated memberOf
 begun q e =
     let m = memberOf q in
-    let f = frictionAlong q (q .path) in
+    let f = jacked q - ticksAlong q (q .path) in
     let s = slipLoss (q .Es) (q .slip) (q .tendonLength) in
     let d = deflectorTicks (q .deflectorLoss) in
     let sat = through (seated m) _ e in

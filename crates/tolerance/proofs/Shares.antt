@@ -12,10 +12,11 @@ use native.Mathlib.Omega.{arith}
 use lib.Dec.{leb, ltb, eqb, leb→le, eqb→eq, lit<, T as Holds}
 use lib.Ieee.Fits.{and-l, and-r}
 use borrow.Author.Tests.{ltb-true, ltb-false, le-ltb}
-use Rattle.fraction.specs.Fraction.{Fraction, whole, _⊕_, _⊖_, _⊗_, _≼_, Within}
+use Rattle.fraction.specs.Fraction.{Fraction, whole, _⊕_, _⊖_, _⊗_, _÷_, _≼_, Within}
 use Rattle.fraction.proofs.Laws.{≈-refl, ≼-refl, ≼-trans, ≼-resp-≈, whole-⊕}
 use Rattle.fraction.proofs.Laws.{larger-is-left}
 use Rattle.fraction.proofs.Floors.{whole-order, order-of-whole, whole-not-negative}
+use Rattle.fraction.proofs.Quotients.{quotient-order, quotient-most}
 use Rattle.fraction.proofs.Certificate.{num, _⊟_, _⊑_, _⊢_, follows}
 use Rattle.fraction.proofs.Distances.{within-weaken, within-resp-≈}
 use Rattle.tables.specs.declared.Row.{Row}
@@ -26,8 +27,7 @@ use Rattle.tables.specs.Tables.{rowsOf, tableReading}
 use Rattle.ticks.specs.Ticks.{T}
 use Rattle.tables.proofs.Weights.{by-way}
 use Rattle.coefficient.specs.Coefficients.{creepShare, shrinkageShare}
-use Rattle.tolerance.specs.Formulas.{_÷_, along, shareOf}
-use Rattle.tolerance.proofs.Quotients.{quotient-order, quotient-most}
+use Rattle.tolerance.specs.Formulas.{along, shareOf}
 use Rattle.tolerance.proofs.Rounded.{Rounded, floor-rounded, product-near, rounded-within, rounded-not-negative}
 use Rattle.tolerance.proofs.Rounded.{rounded-difference}
 

@@ -5,19 +5,18 @@ use mathlib.Core.List.{[], _∷_}
 use Prim.Native.Nat.{ℕ, _+_, _*_, _/_, _≤_, _<_}
 use native.Mathlib.Omega.{arith}
 use lib.Dec.{lit<, lit≤}
-use Rattle.fraction.specs.Fraction.{Fraction, whole, _⊕_, _⊗_, _≼_, Within}
+use Rattle.fraction.specs.Fraction.{Fraction, whole, _⊕_, _⊗_, _÷_, inverse, _≼_, Within}
 use Rattle.fraction.specs.Equality.{_≈_}
 use Rattle.fraction.proofs.Laws.{≈-refl, ≈-sym, _⨾_, ⊗-cong, ⊗-not-negative}
 use Rattle.fraction.proofs.Certificate.{num, _⊞_, _⊠_, _⊑_, _≐_, _⊛_, _⊢_, follows, identity}
-use Rattle.fraction.proofs.Floors.{whole-order, whole-not-negative}
+use Rattle.fraction.proofs.Floors.{whole-order, whole-not-negative, whole-cancel}
+use Rattle.fraction.proofs.Quotients.{quotient-not-negative, inverse-cancels, inverse-not-negative, above-zero}
 use Rattle.fraction.proofs.Slopes.{SlowTo, hinge, slow-resp-≈, scaled-hinge-slow-to}
 use Rattle.fields.specs.Limits.{range}
 use Rattle.formulas.specs.Steps.{shorteningLoss as ticksShorteningLoss, concreteStress as ticksConcreteStress, kappaUnit}
-use Rattle.tolerance.specs.Formulas.{_÷_, inverse, concreteStress, shorteningLoss}
-use Rattle.tolerance.proofs.Quotients.{quotient-not-negative, inverse-cancels}
+use Rattle.tolerance.specs.Formulas.{concreteStress, shorteningLoss}
 use Rattle.tolerance.proofs.Rounded.{Rounded, rounded-exact, rounded-sum, rounded-part, rounded-weaken, rounded-not-negative}
-use Rattle.tolerance.proofs.Rounded.{floor-product-below, floor-product-above, whole-cancel, inverse-not-negative}
-use Rattle.tolerance.proofs.Rounded.{above-zero}
+use Rattle.tolerance.proofs.Rounded.{floor-product-below, floor-product-above}
 use Rattle.tolerance.proofs.Concrete.{highestStress, kappaError, concreteError, perKappaUnit, kappa-unit-not-negative}
 use Rattle.tolerance.proofs.Concrete.{concrete-is-hinge, concrete-not-negative, concrete-below, concrete-near}
 

@@ -1,16 +1,19 @@
--- The promise rests on it. Demand 3 as one statement about an accepted run: document 01, "Steps", last paragraph, and document 02, W1.
+-- The promise rests on it. Demand 3 as one statement about an accepted run: document 01, "Steps", last paragraph; document 02, W1 and W3.
 use Prim.Native.Nat.{ℕ, zero, suc, _+_, _-_, _*_, _≤_, _<_}
 use mathlib.Core.List.{List, [], _∷_, _++_}
 use lib.ListN.{length, take, getD}
 use mathlib.Core.Path.{_≡_}
 use Rattle.fraction.specs.Fraction.{Fraction, whole, Within}
 use Rattle.fields.specs.Quantities.{Quantities, Age}
-use Rattle.member.specs.Constants.{jacked, frictionAlong, stressAlong as ticksAlong}
+use Rattle.member.specs.Constants.{jacked, stressAlong as ticksAlong}
 use Rattle.stages.specs.declared.before.BeforeAges.{BeforeAges}
 use Rattle.stages.specs.declared.intervals.Row.{Row}
 use Rattle.formulas.specs.Steps.{momentStress, momentGain}
 use Rattle.stages.specs.Run.{Report}
-use Rattle.tolerance.specs.Method.{Choice, Admissible, tableChoice, stressAlong, afterSlip, stepsAfterSlip, afterDeflector}
+use Rattle.exponential.specs.Factor.{powers}
+use Rattle.exponential.specs.Series.{sumTo}
+use Rattle.tolerance.specs.Method.{Choice, exponentAlong, FactorsAlong, Admissible, tableChoice, stressAlong, afterSlip}
+use Rattle.tolerance.specs.Method.{stepsAfterSlip, afterDeflector}
 use Rattle.ticks.specs.Ticks.{ticksPerUnit}
 
 -- "Steps count s + n + 3: segments, slip, early relaxation, shortening, ages, also where the loss is 0"
@@ -28,12 +31,12 @@ stressesBy [] stress = []
 stressesBy (step ∷ steps) stress = step stress ∷ stressesBy steps (step stress)
 
 abbrev pub exactAfterSlip : Choice → Quantities → Fraction
-exactAfterSlip choice q = afterSlip choice q (stressAlong choice q (q .path))
+exactAfterSlip choice q = afterSlip choice q (stressAlong choice q (length (q .path)))
 
 -- the stress after every step
 abbrev pub exactStresses : Choice → Quantities → List Fraction
 exactStresses choice q =
-    each (length (q .path)) (λ j. stressAlong choice q (take j (q .path)))
+    each (length (q .path)) (stressAlong choice q)
     ++ (exactAfterSlip choice q ∷ stressesBy (stepsAfterSlip choice q) (exactAfterSlip choice q))
 
 -- ---- the core's: "the one these lines give in ticks, and where reply or report has it, the number there"
@@ -52,17 +55,16 @@ unfoldable pub stressesOf : List Row → List ℕ
 stressesOf [] = []
 stressesOf (row ∷ rows) = row .stress ∷ stressesOf rows
 
--- after each step before the ages, and after every step
+-- after each step from slip to shortening, and after every step
 abbrev pub coreBeforeAges : Quantities → BeforeAges → List ℕ
-coreBeforeAges q before =
-    each (length (q .path)) (λ j. ticksAlong q (take j (q .path)))
-    ++ (coreAfterSlip q before ∷ coreAfterEarly q before ∷ before .stress ∷ [])
+coreBeforeAges q before = coreAfterSlip q before ∷ coreAfterEarly q before ∷ before .stress ∷ []
 
 abbrev pub coreStresses : Quantities → Report → List ℕ
-coreStresses q report = coreBeforeAges q (report .before) ++ stressesOf (report .rows)
+coreStresses q report =
+    each (length (q .path)) (λ j. ticksAlong q (take j (q .path))) ++ (coreBeforeAges q (report .before) ++ stressesOf (report .rows))
 
 -- what the delivery note allows a step, in ticks: 1 psi where the fractions read the core's logarithms, and 40 psi whatever admissible
--- ones they read
+-- ones they read; document 02, W3: "The 1 psi a step must survive"
 abbrev pub narrowStep : ℕ
 narrowStep = 1 * ticksPerUnit
 
@@ -80,7 +82,8 @@ pub record Close (step : ℕ) (choice : Choice) (q : Quantities) (report : Repor
       Within (whole (suc (length (q .path)) * step)) (whole (coreAfterDeflector q (report .before)))
       (afterDeflector choice q (exactAfterSlip choice q))
 
--- no stress is larger than the one before it: "no step raises the stress", up to the ages
+-- no stress is larger than the one before it: "no step raises the stress", up to the ages, where "friction counts as a single fall, from
+-- the jack to the path's end" (document 02, W3)
 unfoldable pub Falls : ℕ → List ℕ → Type 0
 Falls before [] = Unit {0}
 Falls before (stress ∷ stresses) = (stress ≤ before) × Falls stress stresses
@@ -125,8 +128,6 @@ pub data EachRisesByGain (q : Quantities) : (moments stress : ℕ) → List Age 
 -- "the core's after a step is the one these lines give in ticks, and where reply or report has it, the number there". By the sums none
 -- of the differences in `coreStresses` is cut at 0, and by the count every age has its row.
 pub record Linked (q : Quantities) (report : Report) : Type 0 where
-  pub path : (j : ℕ) → j ≤ length (q .path)
-      → ticksAlong q (take j (q .path)) + frictionAlong q (take j (q .path)) ≡ jacked q
   pub path-end : ticksAlong q (q .path) + report .before .friction ≡ jacked q
   pub reply : report .before .stress + lossesBefore (report .before) ≡ jacked q
   pub rows-count : length (report .rows) ≡ length (q .ages)
@@ -134,9 +135,11 @@ pub record Linked (q : Quantities) (report : Report) : Type 0 where
 
 -- "Demand 3 is one claim over the whole run"
 pub record Demand3 (q : Quantities) (report : Report) : Type 0 where
-  pub narrow : Close narrowStep tableChoice q report
-  pub wide : (choice : Choice) → Admissible choice → Close wideStep choice q report
-  pub falls : Falls (jacked q) (coreBeforeAges q (report .before))
+  pub narrow : (factor : ℕ → Fraction) → FactorsAlong q factor → Close narrowStep (tableChoice factor) q report
+  pub wide : (choice : Choice) → Admissible q choice → Close wideStep choice q report
+  -- there are such factors: the sums up to the 15th power
+  pub some-factors : FactorsAlong q (λ j. sumTo powers (exponentAlong q j))
+  pub falls : Falls (jacked q) (ticksAlong q (q .path) ∷ coreBeforeAges q (report .before))
   pub rises : EachRisesByGain q (q .ownWeightMoment) (report .before .stress) (q .ages) (report .rows)
   pub closes :
       jacked q + gainsOfRows (report .rows) ≡ report .last + lossesBefore (report .before) + lossesOfRows (report .rows)

@@ -1,11 +1,10 @@
 -- The promise rests on it. The formulas without rounding, beside `Tables`, `Constants` of `member` and `Steps` of `formulas`. SCF, SSF
 -- and MCF are whole by themselves.
-use Prim.Native.Nat.{ℕ, _-_, _<_, max, _*_}
-use native.Mathlib.Nat.{le-max-left}
+use Prim.Native.Nat.{ℕ, _-_, _*_}
 use mathlib.Core.Bool.{cond}
 use mathlib.Core.List.{List, [], _∷_}
 use lib.Dec.{ltb, eqb}
-use Rattle.fraction.specs.Fraction.{Fraction, whole, _⊕_, _⊖_, _⊗_, larger}
+use Rattle.fraction.specs.Fraction.{Fraction, whole, _⊕_, _⊖_, _⊗_, _÷_, inverse, larger}
 use Rattle.tables.specs.declared.Row.{Row}
 use Rattle.tables.specs.Tables.{hundred, at, hundredths, weighed}
 use Rattle.ticks.specs.Ticks.{ticksPerUnit, T}
@@ -15,19 +14,6 @@ use Rattle.member.specs.Constants.{million, kappaOfSquares, creepDivisor, shrin
 use Rattle.member.specs.Member.{cureOf, concreteOf}
 use Rattle.coefficient.specs.declared.codes.Steel.{Steel}
 use Rattle.formulas.specs.Steps.{relaxationDivisor, kappaUnit}
-
-infixl 85 _÷_
--- quotients without rounding: no divisor of an accepted member is 0; a divisor of 0 would read 1 here
-pub at-least-one : (b : ℕ) → 0 < max 1 b
-at-least-one b = le-max-left 1 b
-
--- a / b
-unfoldable pub _÷_ : ℕ → ℕ → Fraction
-a ÷ b = record { up = a; down = 0; den = max 1 b; positive = at-least-one b }
-
--- 1 / x, for an x above 0
-unfoldable pub inverse : Fraction → Fraction
-inverse x = record { up = x .den; down = 0; den = max 1 (x .up - x .down); positive = at-least-one (x .up - x .down) }
 
 -- "wobble·length·T/(1024·10^6)"
 abbrev pub wobblePart : ℕ → Segment → Fraction
@@ -70,10 +56,6 @@ along unit x low (high ∷ rows) =
 abbrev pub shareOf : List Row → ℕ → Fraction
 shareOf [] hours = whole 0
 shareOf (first ∷ rows) hours = along T hours first rows
-
--- "Loss f·X/T"
-abbrev pub frictionLoss : Fraction → Fraction → Fraction
-frictionLoss stress friction = stress ⊗ friction ⊗ (1 ÷ T)
 
 -- "Slip Es·slip·1024/(12·length)"
 abbrev pub slipLoss : ℕ → ℕ → ℕ → Fraction

@@ -1,33 +1,47 @@
--- The promise rests on it. The method in fractions: document 01, "Steps", "these lines without rounding", and the gain of document 02,
--- W1, beside `Run` of `stages`. Each step after the path is a map of stresses.
+-- The promise rests on it. The method in fractions: document 01, "Steps", "these lines without rounding", with the gain and the friction
+-- of document 02, W1 and W3, beside `Run` of `stages`. Each step after the path is a map of stresses.
 use Prim.Native.Nat.{ℕ, suc, _≤_, _+_, _*_}
 use mathlib.Core.List.{List, [], _∷_}
-use Rattle.fraction.specs.Fraction.{Fraction, whole, _≼_, _⊕_, _⊖_}
+use lib.ListN.{length, take}
+use Rattle.fraction.specs.Fraction.{Fraction, whole, _≼_, _⊕_, _⊖_, _⊗_, _÷_}
+use Rattle.exponential.specs.Series.{BySeries}
 use Rattle.logarithm.specs.Logarithm.{logarithm, serviceLife}
-use Rattle.ticks.specs.Ticks.{ticksPerUnit}
+use Rattle.ticks.specs.Ticks.{ticksPerUnit, T}
 use Rattle.coefficient.specs.declared.codes.Kind.{Kind}
 use Rattle.coefficient.specs.Coefficients.{sinceTransfer, sinceCuring, sinceTensioning}
 use Rattle.tables.specs.Tables.{creepShareRows, shrinkageShareRows}
-use Rattle.fields.specs.Quantities.{Quantities, Segment, Age}
+use Rattle.fields.specs.Quantities.{Quantities, Age}
 use Rattle.member.specs.Member.{kindOf, steelOf, hoursOf}
 use Rattle.member.specs.Constants.{jacked}
-use Rattle.tolerance.specs.Formulas.{pathFriction, kappa, wholeCreep, wholeShrinkage, shareOf, frictionLoss, slipLoss}
+use Rattle.tolerance.specs.Formulas.{pathFriction, kappa, wholeCreep, wholeShrinkage, shareOf, slipLoss}
 use Rattle.tolerance.specs.Formulas.{relaxationLoss, momentStress, concreteStress, shorteningLoss, creepLoss, shrinkageLoss}
 use Rattle.tolerance.specs.Formulas.{momentGain}
 
--- what the method may choose, once for the whole run
+-- what the method may choose, once for the whole run: the logarithm of an hour, and the factor that is left of the jacking stress after
+-- so many segments
 pub record Choice : Type 0 where
   pub log : ℕ → Fraction
+  pub factor : ℕ → Fraction
+
+-- X/T of the first j segments
+abbrev pub exponentAlong : Quantities → ℕ → Fraction
+exponentAlong q j = pathFriction (q .wobble) (q .curvature) (take j (q .path)) ⊗ (1 ÷ T)
+
+-- document 02, W3: "the fraction method may take any factor between a pair of neighbouring sums that are no further apart than 1/T",
+-- after each count of segments. After none X is 0 and every sum is 1, and so is the factor.
+abbrev pub FactorsAlong : Quantities → (ℕ → Fraction) → Type 0
+FactorsAlong q factor = (j : ℕ) → j ≤ length (q .path) → BySeries (exponentAlong q j) (factor j)
 
 -- "one choice for the whole run gives each hour h a fraction from L(h) to L(h) + 1, no later hour a smaller one"
-pub record Admissible (choice : Choice) : Type 0 where
+pub record Admissible (q : Quantities) (choice : Choice) : Type 0 where
   pub least : (hour : ℕ) → 1 ≤ hour → hour ≤ serviceLife → whole (logarithm hour) ≼ choice .log hour
   pub most : (hour : ℕ) → 1 ≤ hour → hour ≤ serviceLife → choice .log hour ≼ whole (suc (logarithm hour))
   pub rises : (hour later : ℕ) → 1 ≤ hour → hour ≤ later → later ≤ serviceLife → choice .log hour ≼ choice .log later
+  pub factors : FactorsAlong q (choice .factor)
 
--- the core's own choice
-abbrev pub tableChoice : Choice
-tableChoice = record { log = λ hour. whole (logarithm hour) }
+-- the core's own logarithms, beside these factors
+abbrev pub tableChoice : (ℕ → Fraction) → Choice
+tableChoice factor = record { log = λ hour. whole (logarithm hour); factor = factor }
 
 -- what stands at an end of an interval: g, the shares that are done, and the logarithm of relaxation's clock
 pub record End : Type 0 where
@@ -37,9 +51,9 @@ pub record End : Type 0 where
   pub logarithm : Fraction
 
 module _ (choice : Choice) (q : Quantities) where
-  -- 1. "the stress after j segments takes X of the first j": the stress after these segments
-  abbrev pub stressAlong : List Segment → Fraction
-  stressAlong segments = whole (jacked q) ⊖ frictionLoss (whole (jacked q)) (pathFriction (q .wobble) (q .curvature) segments)
+  -- 1. document 02, W3: "f times e to the power −X/T", where "the stress after j segments takes X of the first j"
+  abbrev pub stressAlong : ℕ → Fraction
+  stressAlong j = whole (jacked q) ⊗ choice .factor j
 
   -- 2. slip; then the deflector loss, which is no step
   abbrev pub afterSlip : Fraction → Fraction

@@ -1,6 +1,6 @@
-//! The core against the papers' method as the tests write it, on random inputs: good members, edges of every range, damaged bytes,
-//! NaN payloads, odd lengths, short buffers. Every byte of reply, report and scratch is compared. And cards with a blank slip, against the
-//! same cards that write it.
+//! The core against the papers' method as the tests write it, on random inputs: good members, some with long ducts, edges of every range,
+//! damaged bytes, NaN payloads, odd lengths, short buffers. Every byte of reply, report and scratch is compared. And cards with a blank
+//! slip, against the same cards that write it.
 
 mod paper;
 
@@ -74,6 +74,16 @@ fn section(r: &mut Random, area: u64) -> [(Field, u64); 4] {
     }
 }
 
+/// Fields of the duct. At times it is long: with the segments below, its X comes up to 1.5 T and beyond.
+fn duct(r: &mut Random) -> [(Field, u64); 3] {
+    if r.one_in(3) {
+        [(Wobble, r.below(1000)), (Curvature, r.below(400_000)), (Segments, r.between(16, MOST_SEGMENTS))]
+    } else {
+        let segments = if r.one_in(8) { MOST_SEGMENTS } else { r.below(8) };
+        [(Wobble, r.below(400)), (Curvature, r.below(250_000)), (Segments, segments)]
+    }
+}
+
 /// The head of a member that is often accepted.
 fn head(r: &mut Random) -> Vec<u64> {
     let kind = r.between(PRETENSIONED, POST_TENSIONED);
@@ -104,10 +114,10 @@ fn head(r: &mut Random) -> Vec<u64> {
     section(r, area).into_iter().for_each(|(field, number)| set(field, number));
     set(EndOfCuring, if kind == PRETENSIONED { transfer } else { r.between(0, transfer.min(MOST_CURING_IF_MOIST)) });
     set(Transfer, transfer);
-    set(Wobble, r.below(400));
-    set(Curvature, r.below(250_000));
-    let no_path = kind == PRETENSIONED || r.one_in(3);
-    set(Segments, if no_path { 0 } else if r.one_in(8) { MOST_SEGMENTS } else { r.below(8) });
+    duct(r).into_iter().for_each(|(field, number)| set(field, number));
+    if kind == PRETENSIONED || r.one_in(3) {
+        set(Segments, 0);
+    }
     set(Ages, if r.one_in(8) { MOST_AGES } else { r.between(LEAST_AGES, 12) });
     fields
 }
@@ -301,26 +311,30 @@ fn compare(what: &str, returned: u64, was: &Buffers, now: &Buffers, due: Result<
     }
 }
 
-/// How many cases gave each answer, and how many accepted ones have a gain.
+/// How many cases gave each answer, and how many accepted ones have a gain, or a long duct.
 #[derive(Default)]
 struct Tally {
     answers: [usize; ANSWERS],
     gains: usize,
+    long_ducts: usize,
 }
 
 impl Tally {
     fn count(&mut self, due: &Result<Run, Refusal>) {
         self.answers[due.as_ref().err().map_or(0, |&(number, _)| number as usize)] += 1;
         self.gains += usize::from(due.as_ref().is_ok_and(Run::gains));
+        self.long_ducts += usize::from(due.as_ref().is_ok_and(Run::long_duct));
     }
 
-    /// The tests would show little if an answer or a gain came up hardly ever, but for the refusal `unseen`, which cannot.
+    /// The tests would show little if an answer, a gain or a long duct came up hardly ever, but for the refusal `unseen`, which cannot.
     fn hold(&self, unseen: Option<u64>) {
-        println!("accepted {}, with a gain {}, refused {:?}", self.answers[0], self.gains, &self.answers[1..]);
+        let (accepted, refused) = (self.answers[0], &self.answers[1..]);
+        println!("accepted {accepted}, with a gain {}, with a long duct {}, refused {refused:?}", self.gains, self.long_ducts);
         for (number, count) in self.answers.iter().enumerate().filter(|&(number, _)| Some(number as u64) != unseen) {
             assert!(*count >= LEAST_COUNT, "answer {number} came up {count} times");
         }
         assert!(self.gains >= LEAST_COUNT, "a gain came up {} times", self.gains);
+        assert!(self.long_ducts >= LEAST_COUNT, "a long duct came up {} times", self.long_ducts);
     }
 }
 

@@ -126,7 +126,7 @@ pub const LEAST_TRANSFER_IF_MOIST: u64 = 72;
 pub const MOST_TRANSFER: u64 = 960;
 pub const MOST_CURING_IF_MOIST: u64 = 168;
 pub const LIFE: u64 = 438_000;
-const MOST_X: u128 = 5_033_164;
+const MOST_X: u128 = 3 * T / 2; // 1.5 T, of document 02's W3
 const MOST_KAPPA: u128 = 1 << 30;
 const MOST_CREEP: u128 = 1 << 56;
 const LEAST_STRESS: u128 = 1000 * TICKS;
@@ -232,9 +232,10 @@ const ROW_GAIN: usize = 4;
 /// Numbers of scratch that an age needs.
 pub const SCRATCH_NUMBERS_OF_AGE: usize = ROW_NUMBERS;
 
-/// An accepted run.
+/// An accepted run, and the X of its path.
 #[derive(Debug, Clone, PartialEq)]
 pub struct Run {
+    pub x: u128,
     pub before: [u64; BEFORE_NUMBERS],
     pub rows: Vec<[u64; ROW_NUMBERS]>,
 }
@@ -248,6 +249,11 @@ impl Run {
     /// Whether a moment lifts the stress at some age.
     pub fn gains(&self) -> bool {
         self.rows.iter().any(|row| row[ROW_GAIN] > 0)
+    }
+
+    /// Whether the duct is long: its X is above T.
+    pub fn long_duct(&self) -> bool {
+        self.x > T
     }
 }
 
@@ -420,6 +426,14 @@ fn check(holds: bool, number: u64, place: usize) -> Result<(), Refusal> {
     if holds { Ok(()) } else { Err((number, place as u64)) }
 }
 
+/// Document 02's W3 takes the powers of X up to this one.
+const POWERS_OF_X: u128 = 15;
+
+/// The part of the jacking stress that friction leaves, in 1/T, if X is at most 1.5 T.
+fn friction_factor(x: u128) -> u128 {
+    (1..=POWERS_OF_X).rev().fold(T, |h, k| T - h * x / (k * T))
+}
+
 impl Paper {
     pub fn new() -> Self {
         Paper { thresholds: thresholds() }
@@ -548,7 +562,7 @@ impl Paper {
         let c = |stress: u128, moments: u128| (stress * kappa >> 32).saturating_sub(g(moments));
 
         let jacked = f(JackingStress) * TICKS;
-        let friction = jacked * x / T;
+        let friction = jacked - jacked * friction_factor(x) / T;
         let mut stress = lose(jacked, friction, 0)?;
         let slip = es * f(Slip) * TICKS / (12 * f(Length));
         stress = lose(stress, slip, 0)?;
@@ -577,6 +591,6 @@ impl Paper {
             rows.push([creep, shrinks, relaxes, stress, gain].map(|v| v as u64));
             (start, moments) = (hour, moments_after);
         }
-        Ok(Run { before, rows })
+        Ok(Run { x, before, rows })
     }
 }

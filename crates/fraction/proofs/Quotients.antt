@@ -3,11 +3,10 @@
 use mathlib.Core.Path.{_≡_, sym, ap, _∙_}
 use Prim.Native.Nat.{ℕ, _+_, _-_, _*_, _≤_, _<_, max}
 use native.Mathlib.Omega.{arith}
-use Rattle.fraction.specs.Fraction.{Fraction, whole, _⊗_, _≼_}
+use Rattle.fraction.specs.Fraction.{Fraction, whole, _⊗_, _÷_, inverse, _≼_}
 use Rattle.fraction.specs.Equality.{over, _≈_}
 use Rattle.fraction.proofs.Laws.{≈-sym, ≼-trans, ≼-of-≈, ≼-resp-≈}
 use Rattle.fraction.proofs.Floors.{over-order}
-use Rattle.tolerance.specs.Formulas.{_÷_, inverse}
 
 -- a / b
 pub quotient : (a b : ℕ) (h : 0 < b) → a ÷ b ≈ over a b h
@@ -21,6 +20,10 @@ quotient-not-negative a b = record { at-most = omega arith }
 pub quotient-most : (a b most : ℕ) → 0 < b → a ≤ most * b → a ÷ b ≼ whole most
 unfolding over whole
 quotient-most a b most h k = ≼-trans (≼-of-≈ (quotient a b h)) (record { at-most = omega arith })
+
+pub quotient-times : (a b : ℕ) → 0 < b → whole b ⊗ (a ÷ b) ≈ whole a
+unfolding _÷_ whole _⊗_
+quotient-times a b h = record { equal = let e : max 1 b ≡ b = omega arith in rw e (omega arith) }
 
 -- quotients compare as their cross products do
 pub quotient-order : (a b c d : ℕ) → 0 < b → 0 < d → a * d ≤ c * b → a ÷ b ≼ c ÷ d
@@ -46,3 +49,12 @@ inverse-cancels x h =
 pub inverse-quotient : (a b : ℕ) → 0 < a → inverse (a ÷ b) ≈ max 1 b ÷ a
 unfolding inverse _÷_
 inverse-quotient a b h = record { equal = let e : max 1 (a - 0) ≡ max 1 a = omega arith in rw e }
+
+-- 1 / x is not negative, and what is 1 at least is above 0
+pub inverse-not-negative : (x : Fraction) → whole 0 ≼ inverse x
+unfolding inverse whole
+inverse-not-negative x = record { at-most = omega arith }
+
+pub above-zero : (x : Fraction) → whole 1 ≼ x → x .down < x .up
+unfolding whole
+above-zero x h = omega (arith, h .at-most, x .positive)

@@ -1,0 +1,7 @@
+pub mod Sums
+pub mod Alternation
+pub mod Taken
+pub mod Turns
+pub mod Rounding
+pub mod Slow
+pub mod Series
