@@ -55,7 +55,7 @@ enum stratelyn_refusal {
   STRATELYN_CODE = 1,       /* a code that is not listed; place: field */
   STRATELYN_RANGE = 2,      /* out of range; place: field */
   STRATELYN_HOURS = 3,      /* a rule of hours is broken; place: field */
-  STRATELYN_DUCT = 4,       /* place 1: a pretensioned member with segments; 2: more friction than the method takes */
+  STRATELYN_DUCT = 4,       /* place 1: a pretensioned member with segments; 2: an X over 1.5, more than the core takes */
   STRATELYN_SECTION = 5,    /* too much steel for the section; place 14 */
   STRATELYN_CREEP = 6,      /* too much creep for the section; place 17 */
   STRATELYN_STRESS = 7,     /* under 1,000 psi after a loss, before a gain; place 0 before the ages, else the age's number */

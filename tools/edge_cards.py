@@ -394,7 +394,7 @@ def long_ducts():
         yield label % least, card(POST, [segment], wobble=wobble, jacking_stress=jacked, **UNLOADED)
     for x, text in zip((X_BEFORE_RISE, X_BEFORE_RISE + 1), without_and_with_bend(X_BEFORE_RISE)):
         yield "X %d, factor %d" % (x, friction_factor(x)), text
-    # Under it by a tick where the straight ends; the bend lifts the factor.
+    # A straight that ends under it by a tick; a bend behind it lifts the factor.
     x = next(x for x in range(X_BEFORE_RISE, MOST_X) if least_jacking_stress(x) > least_jacking_stress(x + 1))
     under, dips = without_and_with_bend(x, jacking_stress=least_jacking_stress(x + 1), **UNLOADED)
     yield "stress under %d psi at a path's end, by a tick" % least, under

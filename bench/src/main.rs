@@ -23,7 +23,7 @@ fn sample() -> Member {
     read_card(include_bytes!("../../crates/report/stdin")).expect("the sample is accepted")
 }
 
-/// A member with the most segments and ages.
+/// A member with the most segments and ages, and a long duct: its X is above T.
 fn large() -> Member {
     let Member(mut f) = sample();
     f.truncate(HEAD_FIELDS);
@@ -32,8 +32,8 @@ fn large() -> Member {
     set(Inertia, 1 << 26);
     set(Eccentricity, 2048);
     set(OwnWeightMoment, 1 << 20);
-    set(Wobble, 100);
-    set(Curvature, 50_000);
+    set(Wobble, 700);
+    set(Curvature, 350_000);
     set(Segments, MOST_SEGMENTS);
     set(Ages, MOST_AGES);
     let kinds = [segment(STRAIGHT, 2048, 0), segment(PARABOLA, 65_536, 512), segment(BEND, 0, 10)];

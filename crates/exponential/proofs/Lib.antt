@@ -1,6 +1,6 @@
 pub mod Sums
 pub mod Alternation
-pub mod Taken
+pub mod Allowed
 pub mod Turns
 pub mod Rounding
 pub mod Slow

@@ -3,7 +3,7 @@
 -- the error lies from −a to b. The turns of k ≥ 4 keep it from −32 to 80; those of 3, 2 and 1 widen it to −141 and 154. Assumes nothing.
 use mathlib.Core.Path.{_≡_}
 use mathlib.Core.List.{[], _∷_}
-use Prim.Native.Nat.{ℕ, zero, suc, _+_, _*_, _/_, _≤_, _<_, max}
+use Prim.Native.Nat.{ℕ, zero, suc, _+_, _*_, _≤_, _<_, max}
 use native.Mathlib.Nat.{mul-le-mul-left}
 use native.Mathlib.Omega.{arith}
 use lib.Dec.{lit<, lit≤}
@@ -17,7 +17,7 @@ use Rattle.ticks.specs.Ticks.{T}
 use Rattle.fields.specs.Limits.{mostFriction}
 use Rattle.exponential.specs.Factor.{powers, turn, turns, factor}
 use Rattle.exponential.specs.Series.{sumTo}
-use Rattle.exponential.proofs.Sums.{part, part-not-negative, exactTurn, run, run-is-sum}
+use Rattle.exponential.proofs.Sums.{part, part-not-negative, run, run-is-sum}
 use Rattle.exponential.proofs.Turns.{taken, turn-most, early-fits, third-half, last-fits}
 
 -- −a ≤ 64 (h − T s) ≤ b

@@ -1,5 +1,6 @@
--- What is claimed of the factor and of the series, put together; and how far the factor lies from any that may be taken at an x somewhat
--- above X / T: its own error, what x lies above, for the 15th sum has slope 1 at the most, and 1. Assumes nothing.
+-- What is claimed of the factor and of the series, put together; and how far the factor, in units of 1/T, lies from any that the series
+-- allows at an x somewhat above X / T: its own error, what T x lies above X, for the 15th sum has slope 1 at the most, and 1 for what is
+-- allowed. Assumes nothing.
 use mathlib.Core.Path.{refl}
 use mathlib.Core.List.{[], _∷_}
 use Prim.Native.Nat.{ℕ, _*_, _≤_}
@@ -18,7 +19,7 @@ use Rattle.exponential.specs.Factor.{powers, factor, turns}
 use Rattle.exponential.specs.Series.{sumTo, BySeries}
 use Rattle.exponential.specs.Claims.{Claims}
 use Rattle.exponential.proofs.Alternation.{alternates}
-use Rattle.exponential.proofs.Taken.{sixteenth-near, some-taken, taken-near}
+use Rattle.exponential.proofs.Allowed.{sixteenth-near, some-allowed, allowed-near}
 use Rattle.exponential.proofs.Rounding.{factor-within}
 use Rattle.exponential.proofs.Slow.{sum-slow}
 
@@ -47,7 +48,7 @@ module _ (X : ℕ) (most : X ≤ mostFriction) where
 
   -- y is X before its parts are rounded down
   module _ (y above φ : Fraction) (low : whole X ≼ y) (high : y ≼ whole X ⊕ above) (y≤2 : y ⊗ (1 ÷ T) ≼ whole 2)
-      (taken : BySeries (y ⊗ (1 ÷ T)) φ) where
+      (allowed : BySeries (y ⊗ (1 ÷ T)) φ) where
     y≥0 : whole 0 ≼ y
     y≥0 = ≼-trans (whole-not-negative X) low
 
@@ -71,7 +72,7 @@ module _ (X : ℕ) (most : X ≤ mostFriction) where
         (within-weaken moved (within-scaled (whole T) (whole-not-negative T) (sum-slow (X ÷ T) (y ⊗ (1 ÷ T)) x≥0 order y≤2)))
         (within-weaken (≼-of-≈ unit)
         (within-scaled (whole T) (whole-not-negative T)
-        (within-sym (taken-near (y ⊗ (1 ÷ T)) (≼-trans x≥0 order) y≤2 taken)))))
+        (within-sym (allowed-near (y ⊗ (1 ÷ T)) (≼-trans x≥0 order) y≤2 allowed)))))
 
 pub series : Claims
 unfolding factor turns
@@ -79,7 +80,7 @@ series = record {
   error-15 = error-15;
   error-16 = error-16;
   later = alternates;
-  taken = λ x x≥0 x≤2 taken. taken-near x x≥0 x≤2;
-  some-taken = some-taken;
+  allowed = λ x x≥0 x≤2 φ. allowed-near x x≥0 x≤2;
+  some-allowed = some-allowed;
   lifted = refl;
 }

@@ -1,6 +1,6 @@
 -- The 15th sum is slow: for 0 ≼ x ≼ y ≼ 2 the sums at x and at y differ by at most y − x. Two runs of Horner's rule go side by side, u at x
--- and v at y. From u = v = 1 on, v ≼ u, y (u − v) ≼ (y − x) (1 − v) and v is from 0 to 1; the first of these needs v ≽ 1/2 before each
--- turn, which holds down to k = 3. Assumes nothing.
+-- and v at y. From u = v = 1 on, v ≼ u, y (u − v) ≼ (y − x) (1 − v) and v is from 0 to 1; the first of these needs v ≽ 1/2 before a turn,
+-- which holds before each but the last, that of 1. Assumes nothing.
 use mathlib.Core.List.{[], _∷_}
 use Prim.Native.Nat.{ℕ, zero, suc, _*_, _≤_}
 use native.Mathlib.Omega.{arith}

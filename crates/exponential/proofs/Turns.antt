@@ -1,9 +1,9 @@
 -- The turns of h take off no more than there is, where X is at most 1.5 T. At k ≥ 2 that is plain, for X / (k T) is at most 3/4. At k = 1
--- it is not: there h is at least T / 2 before the turn of 2, so that X / (4 T) at least is taken off then, and (1 − x/4) x is at most 15/16
--- for x ≤ 1.5. And the loop of the code is the turns of the definition, k by k. Assumes nothing.
+-- it is not: before the turn of 2 h is at least T / 2, so that this turn takes off X / 4 but for the rounding; and (1 − x/4) x is at most
+-- 15/16 for x ≤ 1.5, which leaves room for it. And the loop of the code is the turns of the definition, k by k. Assumes nothing.
 use mathlib.Core.Path.{_≡_, refl, ap}
 use Prim.Native.Nat.{ℕ, zero, suc, _+_, _*_, _-_, _/_, _≤_, _<_}
-use native.Mathlib.Nat.{div-le-of-le-mul, mul-le-mul, mul-le-mul-left, mul-le-mul-right, mul-div-le, lt-mul-div-succ}
+use native.Mathlib.Nat.{div-le-of-le-mul, mul-le-mul, mul-le-mul-right, mul-div-le, lt-mul-div-succ}
 use native.Mathlib.Omega.{arith}
 use lib.Dec.{lit<, lit≤}
 use Rattle.ticks.specs.Ticks.{T}
@@ -18,7 +18,7 @@ pub turn-most : (X k h : ℕ) → turn X k h ≤ T
 turn-most X k h = omega arith
 
 -- what is taken off and what is left are T
-pub turn-leaves : (X k h : ℕ) → taken X k h ≤ T → turn X k h + taken X k h ≡ T
+turn-leaves : (X k h : ℕ) → taken X k h ≤ T → turn X k h + taken X k h ≡ T
 turn-leaves X k h fits = omega arith
 
 turns-most : (X k h : ℕ) → h ≤ T → turns X k h ≤ T

@@ -13,9 +13,9 @@ pub record Claims : Type 0 where
   pub error-16 : (X : ℕ) → X ≤ mostFriction → Within (5 ÷ 2) (whole (factor X)) (whole T ⊗ sumTo 16 (X ÷ T))
   -- "between which the true value lies": every later sum lies between two neighbouring ones
   pub later : (x : Fraction) → whole 0 ≼ x → x ≼ whole 2 → (m j : ℕ) → m ≤ j → Between (sumTo j x) (sumTo m x) (sumTo (suc m) x)
-  -- "any factor between a pair of neighbouring sums that are no further apart than 1/T" is that near to the 15th sum, which is such a
+  -- "any factor between a pair of neighbouring sums that are no further apart than 1/T" is as near to the 15th sum, which is such a
   -- factor itself
-  pub taken : (x : Fraction) → whole 0 ≼ x → x ≼ whole 2 → (taken : Fraction) → BySeries x taken → Within (1 ÷ T) taken (sumTo 15 x)
-  pub some-taken : (x : Fraction) → whole 0 ≼ x → x ≼ whole 2 → BySeries x (sumTo 15 x)
+  pub allowed : (x : Fraction) → whole 0 ≼ x → x ≼ whole 2 → (φ : Fraction) → BySeries x φ → Within (1 ÷ T) φ (sumTo 15 x)
+  pub some-allowed : (x : Fraction) → whole 0 ≼ x → x ≼ whole 2 → BySeries x (sumTo 15 x)
   -- "rounding may lift the factor by some units": from this X to the next, by three
   pub lifted : factor 22428084 ≡ factor 22428083 + 3

@@ -109,6 +109,7 @@ pub const MOST_MOIST_CURING: u64 = 168;
 
 // ---- The rows from duct to stress
 
+// 1.5 T
 pub const MOST_FRICTION: u64 = 3 * T / 2;
 
 // 2^30

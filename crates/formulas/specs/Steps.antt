@@ -9,6 +9,7 @@ use Rattle.exponential.specs.Factor.{factor}
 abbrev pub stressLeft : ℕ → ℕ → ℕ
 stressLeft stress friction = stress * factor friction / T
 
+-- the friction reported: f less the stress left
 abbrev pub frictionLoss : ℕ → ℕ → ℕ
 frictionLoss stress friction = stress - stressLeft stress friction
 

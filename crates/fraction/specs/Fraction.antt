@@ -42,7 +42,7 @@ x ⊗ y = record {
   positive = mul-pos (x .positive) (y .positive);
 }
 
--- quotients without rounding: no divisor of an accepted member is 0; a divisor of 0 would read 1 here
+-- quotients without rounding: a divisor of 0 would read 1 here; no definition has one for an accepted member
 pub at-least-one : (b : ℕ) → 0 < max 1 b
 at-least-one b = le-max-left 1 b
 

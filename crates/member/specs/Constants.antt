@@ -1,4 +1,5 @@
--- The promise rests on it. κ, U and S; X, and the stress along the path: document 01, "Steps", first lines and 1.
+-- The promise rests on it. κ, U and S; X, and the stress along the path: document 01, "Steps", first lines and 1, and
+-- document 02, W3.
 use Prim.Native.Nat.{ℕ, _+_, _*_, _/_, _^_}
 use mathlib.Core.Bool.{cond}
 use mathlib.Core.List.{List, [], _∷_}

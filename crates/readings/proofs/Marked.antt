@@ -23,9 +23,9 @@ use Rattle.readings.specs.Readings.{double0153, halfApart}
 
 -- what opens every definition that a reading is computed by
 unfoldable computed : Unit {0}
-unfolding firstColumns agesText reportText linesOf fieldsOf hourly cardOutcome digitsOf spacesIn numbersIn segmentsFrom agesFrom checkedOf firstFailing
-    segmentCodes rangesOfSegments rangesOfMoments hoursOfAges memberResult logarithm scf ssf mcf ucr ush creepShare shrinkageShare
-    pathFriction factor ticksOf magnitude
+unfolding firstColumns agesText reportText linesOf fieldsOf hourly cardOutcome digitsOf spacesIn numbersIn segmentsFrom agesFrom checkedOf
+    firstFailing segmentCodes rangesOfSegments rangesOfMoments hoursOfAges memberResult logarithm scf ssf mcf ucr ush creepShare
+    shrinkageShare pathFriction factor ticksOf magnitude
 computed = tt
 
 -- the longest run, by itself: its 128 logarithms take most of the steps that a declaration may take

@@ -36,7 +36,7 @@ beforeAges = 0
 abbrev pub jacked : Member → ℕ
 jacked m = m .«jacking_stress» * ticksPerUnit
 
--- "1. Friction"
+-- "1. Friction", by document 02, W3
 abbrev pub frictionLossOf : Member → ℕ
 frictionLossOf m = frictionLoss (jacked m) (m .friction)
 

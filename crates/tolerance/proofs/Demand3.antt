@@ -1,7 +1,8 @@
 -- Demand 3 of document 01, proved of every accepted run. Along the path both stresses come from the jacking stress, slip is one step
 -- more, and the steps after slip keep near from there on; the two tolerances are one lemma, at the allowances of 1 and of 40 psi a
--- step. That no stress rises before the ages and none by more than its gain at them, that the losses and the last stress add up to the
--- jacking stress and the gains, and that the numbers are those reported, is read off the run. Assumes nothing.
+-- step. That the stress rises neither from the jack to the path's end nor from there to the ages, and at these by no more than its gain,
+-- that the losses and the last stress add up to the jacking stress and the gains, and that the numbers are those reported, is read off the
+-- run. Assumes nothing.
 use mathlib.Core.Path.{_≡_, _∙_}
 use mathlib.Core.List.{List, _∷_, _++_}
 use Prim.Native.Nat.{ℕ, suc, _+_, _-_, _*_, _≤_, _<_}
@@ -26,8 +27,8 @@ use Rattle.member.specs.Facts.{SegmentsFit, Facts}
 use Rattle.stages.specs.declared.before.BeforeAges.{BeforeAges}
 use Rattle.stages.specs.Run.{Report, memberResult}
 use Rattle.tolerance.specs.Method.{Choice, exponentAlong, FactorsAlong, stressAlong, afterDeflector}
-use Rattle.tolerance.specs.Demand.{stepsOf, each, exactAfterSlip, exactStresses, coreAfterSlip, coreAfterDeflector, coreAfterEarly}
-use Rattle.tolerance.specs.Demand.{stressesOf, coreBeforeAges, coreStresses, Close, Falls, Linked, Demand3, lossesBefore}
+use Rattle.tolerance.specs.Demand.{stepsOf, each, exactAfterSlip, exactStresses, coreAfterSlip, coreAfterDeflector}
+use Rattle.tolerance.specs.Demand.{stressesOf, coreAfterPath, coreStresses, Close, Falls, Linked, Demand3, lossesBefore}
 use Rattle.tolerance.specs.Demand.{lossesOfRows, gainsOfRows}
 use Rattle.tolerance.proofs.Path.{pathError, friction-of-part, segments-fit-take, exponent-not-negative, exponent-most, path-close}
 use Rattle.tolerance.proofs.Concrete.{highestStress}
@@ -48,7 +49,7 @@ module _ {q : Quantities} {report scratch : ℕ} (facts : Facts q report scratch
 
   -- the core's stresses after the path
   abbrev rest : List ℕ
-  rest = coreBeforeAges q before ++ stressesOf (given .rows)
+  rest = coreAfterPath q before ++ stressesOf (given .rows)
 
   -- the core's stress after so many segments
   abbrev along : ℕ → ℕ
@@ -77,7 +78,7 @@ module _ {q : Quantities} {report scratch : ℕ} (facts : Facts q report scratch
   some-factors : FactorsAlong q (λ j. sumTo powers (exponentAlong q j))
   some-factors j h =
       let part = take j (q .path) in
-      series .some-taken (exponentAlong q j) (exponent-not-negative q part (part-fits j) (part-few j h) (part-most j))
+      series .some-allowed (exponentAlong q j) (exponent-not-negative q part (part-fits j) (part-few j h) (part-most j))
       (exponent-most q part (part-fits j) (part-few j h) (part-most j))
 
   end-of-path : jacked q - before .friction ≡ ticksAlong q (q .path)
@@ -138,7 +139,7 @@ module _ {q : Quantities} {report scratch : ℕ} (facts : Facts q report scratch
 
   -- ---- the run's own numbers
 
-  falls : Falls (jacked q) (ticksAlong q (q .path) ∷ coreBeforeAges q before)
+  falls : Falls (jacked q) (ticksAlong q (q .path) ∷ coreAfterPath q before)
   unfolding Falls
   falls = let adds-up = began .closes in (omega (arith, end-of-path), (omega (arith, end-of-path), (omega arith, (omega arith, tt))))
 

@@ -7,7 +7,7 @@ use Prim.Native.Nat.{ℕ, _+_, _*_}
 use native.Mathlib.Nat.{le-trans}
 use native.Mathlib.Omega.{arith}
 use lib.Dec.{lit≤}
-use Rattle.fraction.specs.Fraction.{Fraction, whole, _⊕_, _⊖_, _≼_, _÷_}
+use Rattle.fraction.specs.Fraction.{Fraction, whole, _⊕_, _⊖_, _÷_, _≼_}
 use Rattle.fraction.proofs.Certificate.{num, _⊟_, _⊑_, _⊢_, follows}
 use Rattle.fraction.proofs.Floors.{whole-order, whole-not-negative}
 use Rattle.fraction.proofs.Slopes.{KeepsDistance, constant-keeps-distance, raised-keeps-distance, part-keeps-distance}

@@ -1,6 +1,6 @@
 -- Friction along the tendon's path: the stress in ticks beside the stress without rounding, both from the jacking stress. Each segment
--- adds two parts to X, each rounded down, so that X is short by at most 2 for each segment, and so is T times the 15th sum; the factor is
--- off by 2.5 units more, and the one taken in fractions by 1. The jacking stress is less than 15 T, so that a unit is less than 15 ticks of
+-- adds two parts to X, each rounded down, so that X is short by at most 2 for each segment; the factor is off by that many units, by 2.5 of
+-- its own, and the one of the method in fractions by 1. The jacking stress is less than 15 T, so that a unit is less than 15 ticks of
 -- stress; and the stress left is rounded down once. Assumes nothing.
 use mathlib.Core.Path.{_≡_, refl}
 use mathlib.Core.Bool.{Bool, true, false, cond}
@@ -13,11 +13,11 @@ use lib.ListN.{length, take}
 use borrow.Author.Tests.{eqb-true}
 use Rattle.fraction.specs.Fraction.{Fraction, whole, _⊕_, _⊗_, _÷_, _≼_, Within}
 use Rattle.fraction.specs.Equality.{_≈_}
-use Rattle.fraction.proofs.Laws.{≈-refl, ≈-sym, _⨾_, ≼-trans, ≼-of-≈, ⊗-cong, ⊗-not-negative, one-⊗, whole-⊕, whole-⊗}
-use Rattle.fraction.proofs.Floors.{whole-order, whole-not-negative, whole-cancel}
+use Rattle.fraction.proofs.Laws.{≈-refl, ≈-sym, _⨾_, ≼-trans, ≼-of-≈, ⊗-cong, ⊗-mono-left, ⊗-not-negative, one-⊗, whole-⊕}
+use Rattle.fraction.proofs.Floors.{whole-order, whole-not-negative}
 use Rattle.fraction.proofs.Quotients.{quotient-not-negative, quotient-times}
 use Rattle.fraction.proofs.Distances.{within-refl, within-weaken, within-resp-≈}
-use Rattle.fraction.proofs.Certificate.{num, _⊞_, _⊠_, _⊑_, _≐_, _⊛_, _⊢_, follows, identity}
+use Rattle.fraction.proofs.Certificate.{_⊠_, _≐_, identity}
 use Rattle.ticks.specs.Ticks.{ticksPerUnit, T}
 use Rattle.exponential.specs.Factor.{factor}
 use Rattle.exponential.specs.Series.{BySeries}
@@ -41,7 +41,7 @@ partsOfSegment = 2
 abbrev stressPerUnit : ℕ
 stressPerUnit = highestStress / T + 1
 
--- what the factor and the one taken in fractions are off by, rounded up
+-- what the factor and that of the method in fractions are off by, rounded up
 abbrev unitsOfFactors : ℕ
 unitsOfFactors = 4
 
@@ -104,6 +104,10 @@ units-room : (n : ℕ)
 unfolding _÷_ whole _⊕_ _⊗_
 units-room n = record { at-most = omega arith }
 
+twice : whole (2 * T) ⊗ (1 ÷ T) ≼ whole 2
+unfolding _÷_ whole _⊗_
+twice = record { at-most = lit≤ tt }
+
 module _ (q : Quantities) (segments : List Segment) (fits : SegmentsFit segments) (few : length segments ≤ mostSegments)
     (most : ticksFriction (q .wobble) (q .curvature) segments ≤ mostFriction) where
   abbrev X : ℕ
@@ -115,31 +119,29 @@ module _ (q : Quantities) (segments : List Segment) (fits : SegmentsFit segments
   X-rounded : Rounded (whole (partsOfSegment * length segments)) X exact
   X-rounded = path-rounded (q .wobble) (q .curvature) fits
 
-  unit : whole T ⊗ (1 ÷ T) ≈ whole 1
-  unit = quotient-times 1 T (lit< tt)
-
   pub exponent-not-negative : whole 0 ≼ exact ⊗ (1 ÷ T)
   exponent-not-negative = ⊗-not-negative (rounded-not-negative X-rounded) (quotient-not-negative 1 T)
 
   -- the unrounded X passes 1.5 T by two for each segment at the most
   pub exponent-most : exact ⊗ (1 ÷ T) ≼ whole 2
-  exponent-most = whole-cancel T (lit< tt)
-      (follows (whole T ∷ 1 ÷ T ∷ whole X ∷ exact ∷ whole (partsOfSegment * length segments) ∷ whole (T * 2) ∷ [])
-      (λ N Q A Y D M. Y ⊑ A ⊞ D ∷ A ⊞ D ⊑ M ∷ M ⊑ N ⊠ num 2 ∷ (num 0 ⊑ Y) ⊛ (N ⊠ Q ≐ num 1) ∷ [] ⊢ N ⊠ (Y ⊠ Q) ⊑ N ⊠ num 2) tt
-      (X-rounded .greatest)
-      (≼-trans (≼-of-≈ (≈-sym (whole-⊕ X (partsOfSegment * length segments)))) (whole-order (omega arith)))
-      (≼-of-≈ (whole-⊗ T 2)) (rounded-not-negative X-rounded, unit))
+  exponent-most =
+      let short = partsOfSegment * length segments in
+      ≼-trans
+      (⊗-mono-left (1 ÷ T) (quotient-not-negative 1 T)
+      (≼-trans (X-rounded .greatest) (≼-trans (≼-of-≈ (≈-sym (whole-⊕ X short))) (whole-order (omega arith)))))
+      twice
 
   pub path-close : {φ : Fraction} → jacked q ≤ highestStress → BySeries (exact ⊗ (1 ÷ T)) φ
       → Within (whole (pathError (length segments))) (whole (ticksAlong q segments)) (whole (jacked q) ⊗ φ)
-  path-close {φ} small taken =
+  path-close {φ} small allowed =
       within-weaken (units-room (length segments))
       (within-resp-≈ ≈-refl cancelled
       (product-near (jacked q) (factor X) T T highestStress (lit< tt) (factor-most X) (whole-not-negative (jacked q))
       (whole-order small) (within-refl (whole (jacked q)))
-      (factor-near X most exact (whole (partsOfSegment * length segments)) φ (X-rounded .least) (X-rounded .greatest) exponent-most taken)))
+      (factor-near X most exact (whole (partsOfSegment * length segments)) φ (X-rounded .least) (X-rounded .greatest) exponent-most
+      allowed)))
     where
       cancelled : whole (jacked q) ⊗ (whole T ⊗ φ) ⊗ (1 ÷ T) ≈ whole (jacked q) ⊗ φ
       cancelled =
           identity (whole (jacked q) ∷ whole T ∷ φ ∷ 1 ÷ T ∷ []) (λ F N P Q. F ⊠ (N ⊠ P) ⊠ Q ≐ F ⊠ (N ⊠ Q ⊠ P)) tt
-          ⨾ ⊗-cong ≈-refl (⊗-cong unit ≈-refl ⨾ one-⊗ φ)
+          ⨾ ⊗-cong ≈-refl (⊗-cong (quotient-times 1 T (lit< tt)) ≈-refl ⨾ one-⊗ φ)

@@ -8,7 +8,7 @@ use native.Mathlib.Nat.{mul-div-le, lt-mul-div-succ}
 use native.Mathlib.Omega.{arith}
 use Rattle.fraction.specs.Fraction.{Fraction, whole, _⊕_, _⊖_, _⊗_, _÷_, _≼_, larger, Within}
 use Rattle.fraction.specs.Equality.{_≈_}
-use Rattle.fraction.proofs.Laws.{≈-refl, ≈-sym, _⨾_, ≼-trans, ≼-of-≈, ≼-resp-≈, ⊕-cong, ⊗-cong, ⊗-comm, whole-⊕}
+use Rattle.fraction.proofs.Laws.{≈-refl, ≈-sym, ≼-trans, ≼-of-≈, ≼-resp-≈, ⊕-cong, ⊗-comm, whole-⊕}
 use Rattle.fraction.proofs.Certificate.{num, _⊞_, _⊟_, _⊠_, _⊑_, _⊛_, _⊢_, follows}
 use Rattle.fraction.proofs.Floors.{whole-order, whole-not-negative, whole-difference, whole-monus, floor-below, floor-above}
 use Rattle.fraction.proofs.Quotients.{quotient, quotient-not-negative}

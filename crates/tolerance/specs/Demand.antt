@@ -56,12 +56,12 @@ stressesOf [] = []
 stressesOf (row ∷ rows) = row .stress ∷ stressesOf rows
 
 -- after each step from slip to shortening, and after every step
-abbrev pub coreBeforeAges : Quantities → BeforeAges → List ℕ
-coreBeforeAges q before = coreAfterSlip q before ∷ coreAfterEarly q before ∷ before .stress ∷ []
+abbrev pub coreAfterPath : Quantities → BeforeAges → List ℕ
+coreAfterPath q before = coreAfterSlip q before ∷ coreAfterEarly q before ∷ before .stress ∷ []
 
 abbrev pub coreStresses : Quantities → Report → List ℕ
 coreStresses q report =
-    each (length (q .path)) (λ j. ticksAlong q (take j (q .path))) ++ (coreBeforeAges q (report .before) ++ stressesOf (report .rows))
+    each (length (q .path)) (λ j. ticksAlong q (take j (q .path))) ++ (coreAfterPath q (report .before) ++ stressesOf (report .rows))
 
 -- what the delivery note allows a step, in ticks: 1 psi where the fractions read the core's logarithms, and 40 psi whatever admissible
 -- ones they read; document 02, W3: "The 1 psi a step must survive"
@@ -82,8 +82,8 @@ pub record Close (step : ℕ) (choice : Choice) (q : Quantities) (report : Repor
       Within (whole (suc (length (q .path)) * step)) (whole (coreAfterDeflector q (report .before)))
       (afterDeflector choice q (exactAfterSlip choice q))
 
--- no stress is larger than the one before it: "no step raises the stress", up to the ages, where "friction counts as a single fall, from
--- the jack to the path's end" (document 02, W3)
+-- no stress is larger than the one before it: "no step raises the stress", up to the ages; and document 02, W3: "friction counts as a
+-- single fall, from the jack to the path's end, where a rise of stress is ruled out"
 unfoldable pub Falls : ℕ → List ℕ → Type 0
 Falls before [] = Unit {0}
 Falls before (stress ∷ stresses) = (stress ≤ before) × Falls stress stresses
@@ -139,7 +139,7 @@ pub record Demand3 (q : Quantities) (report : Report) : Type 0 where
   pub wide : (choice : Choice) → Admissible q choice → Close wideStep choice q report
   -- there are such factors: the sums up to the 15th power
   pub some-factors : FactorsAlong q (λ j. sumTo powers (exponentAlong q j))
-  pub falls : Falls (jacked q) (ticksAlong q (q .path) ∷ coreBeforeAges q (report .before))
+  pub falls : Falls (jacked q) (ticksAlong q (q .path) ∷ coreAfterPath q (report .before))
   pub rises : EachRisesByGain q (q .ownWeightMoment) (report .before .stress) (q .ages) (report .rows)
   pub closes :
       jacked q + gainsOfRows (report .rows) ≡ report .last + lossesBefore (report .before) + lossesOfRows (report .rows)

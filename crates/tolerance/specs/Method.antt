@@ -23,7 +23,7 @@ pub record Choice : Type 0 where
   pub log : ℕ → Fraction
   pub factor : ℕ → Fraction
 
--- X/T of the first j segments
+-- X/T of the first j segments, not rounded
 abbrev pub exponentAlong : Quantities → ℕ → Fraction
 exponentAlong q j = pathFriction (q .wobble) (q .curvature) (take j (q .path)) ⊗ (1 ÷ T)
 
@@ -32,7 +32,7 @@ exponentAlong q j = pathFriction (q .wobble) (q .curvature) (take j (q .path)) �
 abbrev pub FactorsAlong : Quantities → (ℕ → Fraction) → Type 0
 FactorsAlong q factor = (j : ℕ) → j ≤ length (q .path) → BySeries (exponentAlong q j) (factor j)
 
--- "one choice for the whole run gives each hour h a fraction from L(h) to L(h) + 1, no later hour a smaller one"
+-- "one choice for the whole run gives each hour h a fraction from L(h) to L(h) + 1, no later hour a smaller one"; and factors as above
 pub record Admissible (q : Quantities) (choice : Choice) : Type 0 where
   pub least : (hour : ℕ) → 1 ≤ hour → hour ≤ serviceLife → whole (logarithm hour) ≼ choice .log hour
   pub most : (hour : ℕ) → 1 ≤ hour → hour ≤ serviceLife → choice .log hour ≼ whole (suc (logarithm hour))

@@ -92,7 +92,7 @@ impl fmt::Display for Refusal {
             (2, _) => write!(f, "field {place} is out of range"),
             (3, _) => write!(f, "field {place} breaks a rule of hours"),
             (4, 1) => write!(f, "a pretensioned member has no segments"),
-            (4, _) => write!(f, "the path has more friction than the method takes"),
+            (4, _) => write!(f, "the path has more friction than the core takes: its X is over 1.5"),
             (5, _) => write!(f, "the section is too small for its steel"),
             (6, _) => write!(f, "the section creeps more than the method takes"),
             (7, 0) => write!(f, "less than 1,000 psi are left before the ages"),

@@ -1,10 +1,10 @@
--- What may be taken for e to the power −x lies within 1/T of the 15th sum, where 0 ≼ x ≼ 2. Two that lie between the same neighbours are no
--- further apart than these. Up to the 15th power the 15th sum itself lies between the neighbours; above it they lie between the 15th and
--- the 16th, whose term is below 1/(16 T). Assumes nothing.
+-- Every factor that the series allows at x lies within 1/T of the 15th sum, where 0 ≼ x ≼ 2. Two that lie between the same neighbours are
+-- no further apart than these. Where the neighbours are up to the 15th power, the 15th sum itself lies between them; above it they lie
+-- between the 15th and the 16th, which are no further apart than 1/(16 T). Assumes nothing.
 use mathlib.Core.Path.{_≡_}
 use mathlib.Core.List.{[], _∷_}
 use Prim.Native.Nat.{ℕ, zero, suc, _+_, _*_, _/_, _≤_, max}
-use native.Mathlib.Nat.{lt-mul-div-succ, le-refl}
+use native.Mathlib.Nat.{lt-mul-div-succ}
 use native.Mathlib.Decide.{decLe}
 use native.Mathlib.Omega.{arith}
 use lib.Dec.{lit<, lit≤}
@@ -23,7 +23,7 @@ use Rattle.exponential.proofs.Alternation.{alternates}
 
 -- ---- between the same neighbours
 
-pub between-near : {e z c a b : Fraction} → Within e a b → Between z a b → Between c a b → Within e z c
+between-near : {e z c a b : Fraction} → Within e a b → Between z a b → Between c a b → Within e z c
 between-near near (upward az zb) (upward ac cb) = record {
   above = ≼-trans zb (≼-trans (near .below) (⊕-mono ac ≼-refl));
   below = ≼-trans cb (≼-trans (near .below) (⊕-mono az ≼-refl));
@@ -93,7 +93,9 @@ module _ (x : Fraction) (x≥0 : whole 0 ≼ x) (x≤2 : x ≼ whole 2) where
       }
 
   pub sixteenth-near : Within (1 ÷ (16 * T)) (sumTo powers x) (sumTo (suc powers) x)
-  sixteenth-near = rw (sum-suc powers x) (apart (sumTo powers x) (term (suc powers) (whole 0 ⊖ x)) (1 ÷ (16 * T)) (term-small (suc powers)) of-scale)
+  sixteenth-near =
+      rw (sum-suc powers x)
+      (apart (sumTo powers x) (term (suc powers) (whole 0 ⊖ x)) (1 ÷ (16 * T)) (term-small (suc powers)) of-scale)
     where
       apart : (a t e : Fraction) → Within (whole 4) (whole scale ⊗ t) (whole 0) → whole scale ⊗ e ≈ whole 4 → Within e a (a ⊕ t)
       apart a t e small is = record {
@@ -103,25 +105,25 @@ module _ (x : Fraction) (x≥0 : whole 0 ≼ x) (x≤2 : x ≼ whole 2) where
             (λ K A W E. K ⊠ W ⊑ num 0 ⊞ num 4 ∷ num 4 ≐ K ⊠ E ∷ [] ⊢ K ⊠ (A ⊞ W) ⊑ K ⊠ (A ⊞ E)) tt (small .above) (≈-sym is));
       }
 
-  -- ---- what may be taken
+  -- ---- what is allowed
 
-  -- the 15th and the 16th sum are no further apart than 1/T, so each may be taken
   fifteenth-apart : Within (1 ÷ T) (sumTo powers x) (sumTo (suc powers) x)
   fifteenth-apart = within-weaken (quotient-order 1 (16 * T) 1 T (lit< tt) (lit< tt) (lit≤ tt)) sixteenth-near
-
-  pub some-taken : BySeries x (sumTo powers x)
-  some-taken = record { power = powers; apart = fifteenth-apart; between = alternates x x≥0 x≤2 powers powers (lit≤ tt) }
 
   -- a later sum lies between these two
   later-near : (j : ℕ) → powers ≤ j → Within (1 ÷ T) (sumTo j x) (sumTo powers x)
   later-near j h = between-near fifteenth-apart (alternates x x≥0 x≤2 powers j h) (alternates x x≥0 x≤2 powers powers (lit≤ tt))
 
-  pub taken-near : {factor : Fraction} → BySeries x factor → Within (1 ÷ T) factor (sumTo powers x)
-  taken-near {factor} taken = by (decLe m powers)
+  pub allowed-near : {φ : Fraction} → BySeries x φ → Within (1 ÷ T) φ (sumTo powers x)
+  allowed-near {φ} allowed = by (decLe m powers)
     where
       m : ℕ
-      m = taken .power
+      m = allowed .power
 
-      by : Dec (m ≤ powers) → Within (1 ÷ T) factor (sumTo powers x)
-      by (yes h) = between-near (taken .apart) (taken .between) (alternates x x≥0 x≤2 m powers h)
-      by (no h) = between-both (later-near m (omega arith)) (later-near (suc m) (omega arith)) (taken .between)
+      by : Dec (m ≤ powers) → Within (1 ÷ T) φ (sumTo powers x)
+      by (yes h) = between-near (allowed .apart) (allowed .between) (alternates x x≥0 x≤2 m powers h)
+      by (no h) = between-both (later-near m (omega arith)) (later-near (suc m) (omega arith)) (allowed .between)
+
+  -- the 15th sum itself is allowed
+  pub some-allowed : BySeries x (sumTo powers x)
+  some-allowed = record { power = powers; apart = fifteenth-apart; between = alternates x x≥0 x≤2 powers powers (lit≤ tt) }
