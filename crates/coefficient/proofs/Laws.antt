@@ -8,13 +8,14 @@ use Rattle.coefficient.specs.declared.codes.Cure.{Cure}
 use Rattle.coefficient.specs.declared.codes.Cure.the-variants.{Moist, Accelerated}
 use Rattle.coefficient.specs.declared.codes.Concrete.{Concrete}
 use Rattle.coefficient.specs.declared.codes.Concrete.the-variants.{Normal, Lightweight}
-use Rattle.tables.specs.declared.Table.the-variants.{Scf, Ssf, Mcf}
+use Rattle.tables.specs.declared.factors.Factor.the-variants.{Scf, Ssf, Mcf}
+use Rattle.tables.specs.declared.shares.Share.the-variants.{Creep, Shrinkage}
 use Rattle.coefficient.specs.declared.clocks.MemberHours.{MemberHours}
 use Rattle.coefficient.specs.declared.clocks.HoursSinceTransfer.{HoursSinceTransfer}
 use Rattle.coefficient.specs.declared.clocks.HoursSinceCuring.{HoursSinceCuring}
 use Rattle.coefficient.specs.Coefficients.{sinceTensioning, scf, ssf, mcf, creepShare, shrinkageShare, ucr, ucrBase, ush}
 use Rattle.tables.specs.Exact.{Exact}
-use Rattle.tables.specs.Tables.{scfRows, ssfRows, mcfRows, creepShareRows, shrinkageShareRows, unitOf}
+use Rattle.tables.specs.Tables.{scfRows, ssfRows, mcfRows, unitOf, shareRows}
 use Rattle.ticks.specs.Ticks.{T}
 use Rattle.tables.proofs.Rows.{exact, within, past-last}
 
@@ -49,12 +50,12 @@ mcf-range Accelerated transfer = omega arith
 -- The creep share is never more than 1.
 pub creep-most : (life clock : HoursSinceTransfer) → creepShare life clock ≤ T
 unfolding creepShare
-creep-most life clock = within T 0 100 (clock .0) (creepShareRows (life .0)) tt .1
+creep-most life clock = within T 0 100 (clock .0) (shareRows Creep (life .0)) tt .1
 
 -- The shrinkage share is never more than 1.
 pub shrinkage-most : (life clock : HoursSinceCuring) → shrinkageShare life clock ≤ T
 unfolding shrinkageShare
-shrinkage-most life clock = within T 0 100 (clock .0) (shrinkageShareRows (life .0)) tt .1
+shrinkage-most life clock = within T 0 100 (clock .0) (shareRows Shrinkage (life .0)) tt .1
 
 -- The hours of the 365th day, the last in both tables of shares. Every member's life is longer.
 abbrev pub lastDay : ℕ
@@ -63,12 +64,12 @@ lastDay = 24 * 365
 -- The creep share is 1 from where its clock reads the member's life.
 pub creep-whole : (life clock : HoursSinceTransfer) → lastDay ≤ life .0 → life .0 ≤ clock .0 → creepShare life clock ≡ T
 unfolding creepShare
-creep-whole life clock long h = past-last T (clock .0) (creepShareRows (life .0)) (omega arith)
+creep-whole life clock long h = past-last T (clock .0) (shareRows Creep (life .0)) (omega arith)
 
 -- The shrinkage share is 1 from where its clock reads the member's life.
 pub shrinkage-whole : (life clock : HoursSinceCuring) → lastDay ≤ life .0 → life .0 ≤ clock .0 → shrinkageShare life clock ≡ T
 unfolding shrinkageShare
-shrinkage-whole life clock long h = past-last T (clock .0) (shrinkageShareRows (life .0)) (omega arith)
+shrinkage-whole life clock long h = past-last T (clock .0) (shareRows Shrinkage (life .0)) (omega arith)
 
 base-most : (cure : Cure) (concrete : Concrete) → ucrBase cure concrete ≤ 95000000
 base-most Moist Normal = omega arith

@@ -8,8 +8,9 @@ use Rattle.coefficient.specs.declared.clocks.HoursSinceCuring.{HoursSinc
 use Rattle.coefficient.specs.declared.clocks.HoursSinceTensioning.{HoursSinceTensioning}
 use Rattle.coefficient.specs.declared.codes.Cure.{Cure}
 use Rattle.coefficient.specs.declared.codes.Concrete.{Concrete}
-use Rattle.tables.specs.declared.Table.{Table}
-use Rattle.tables.specs.Tables.{unitOf, tableReading}
+use Rattle.tables.specs.declared.factors.Factor.{Factor}
+use Rattle.tables.specs.declared.shares.Share.{Share}
+use Rattle.tables.specs.Tables.{unitOf, factorReading, shareReading}
 
 -- "Hours since transfer (creep)"
 abbrev pub sinceTransfer : MemberHours → ℕ → HoursSinceTransfer
@@ -30,28 +31,28 @@ sinceTensioning hours hour = record { 0 = max 1 (hour - tensioning (hours .kind)
 
 -- SCF and SSF by volume/surface in ticks
 unfoldable pub scf : ℕ → ℕ
-unfolding tableReading
-scf volumeToSurface = tableReading Table.Scf 0 volumeToSurface
+unfolding factorReading
+scf volumeToSurface = factorReading Factor.Scf volumeToSurface
 
 unfoldable pub ssf : ℕ → ℕ
-unfolding tableReading
-ssf volumeToSurface = tableReading Table.Ssf 0 volumeToSurface
+unfolding factorReading
+ssf volumeToSurface = factorReading Factor.Ssf volumeToSurface
 
 -- "MCF (moist only, else 1) by age at transfer", here in hours
 unfoldable pub mcf : Cure → ℕ → ℕ
-unfolding tableReading
-mcf Cure.Moist transfer = tableReading Table.Mcf 0 transfer
-mcf Cure.Accelerated transfer = unitOf Table.Mcf
+unfolding factorReading
+mcf Cure.Moist transfer = factorReading Factor.Mcf transfer
+mcf Cure.Accelerated transfer = unitOf Factor.Mcf
 
 -- the creep share at a reading of its clock, which reads `life` at hour 438,000 of the member
 unfoldable pub creepShare : HoursSinceTransfer → HoursSinceTransfer → ℕ
-unfolding tableReading
-creepShare life clock = tableReading Table.CreepShare (life .0) (clock .0)
+unfolding shareReading
+creepShare life clock = shareReading Share.Creep (life .0) (clock .0)
 
 -- the shrinkage share at a reading of its clock
 unfoldable pub shrinkageShare : HoursSinceCuring → HoursSinceCuring → ℕ
-unfolding tableReading
-shrinkageShare life clock = tableReading Table.ShrinkageShare (life .0) (clock .0)
+unfolding shareReading
+shrinkageShare life clock = shareReading Share.Shrinkage (life .0) (clock .0)
 
 -- "b = 95,000,000 moist normal, 76,000,000 moist lightweight, 63,000,000 accelerated"
 abbrev pub ucrBase : Cure → Concrete → ℕ

@@ -13,20 +13,23 @@ use clocks::HoursSinceTensioning;
 use clocks::HoursSinceTransfer;
 use codes::Concrete;
 use codes::Cure;
-use tables::Table;
+use tables::factors;
+use tables::factors::Factor;
+use tables::shares;
+use tables::shares::Share;
 
 // The creep factor of volume/surface, in 102,400ths.
 pub fn scf_of(volume_to_surface: u32) -> u64
     ensures { λ r. ⌜ r ≡ scf «volume_to_surface» ⌝ }
 {
-    tables::table_reading(Table::Scf, 0, volume_to_surface)
+    factors::reading(Factor::Scf, volume_to_surface)
 }
 
 // The shrinkage factor of volume/surface, in 102,400ths.
 pub fn ssf_of(volume_to_surface: u32) -> u64
     ensures { λ r. ⌜ r ≡ ssf «volume_to_surface» ⌝ }
 {
-    tables::table_reading(Table::Ssf, 0, volume_to_surface)
+    factors::reading(Factor::Ssf, volume_to_surface)
 }
 
 // The creep factor of the age at transfer, in 72,000ths.
@@ -34,8 +37,8 @@ pub fn mcf_of(cure: Cure, transfer: u32) -> u64
     ensures { λ r. ⌜ r ≡ mcf cure transfer ⌝ }
 {
     match cure {
-        Cure::Moist => tables::table_reading(Table::Mcf, 0, transfer),
-        Cure::Accelerated => tables::MCF_UNIT,
+        Cure::Moist => factors::reading(Factor::Mcf, transfer),
+        Cure::Accelerated => factors::MCF_UNIT,
     }
 }
 
@@ -43,14 +46,14 @@ pub fn mcf_of(cure: Cure, transfer: u32) -> u64
 pub fn creep_share(life: HoursSinceTransfer, clock: HoursSinceTransfer) -> u64
     ensures { λ r. ⌜ r ≡ creepShare life clock ⌝ }
 {
-    tables::table_reading(Table::CreepShare, life.0, clock.0)
+    shares::reading(Share::Creep, life.0, clock.0)
 }
 
 // The share of shrinkage that is done, in 1/T.
 pub fn shrinkage_share(life: HoursSinceCuring, clock: HoursSinceCuring) -> u64
     ensures { λ r. ⌜ r ≡ shrinkageShare life clock ⌝ }
 {
-    tables::table_reading(Table::ShrinkageShare, life.0, clock.0)
+    shares::reading(Share::Shrinkage, life.0, clock.0)
 }
 
 // The logarithm of relaxation's clock.

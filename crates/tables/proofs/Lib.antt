@@ -1,3 +1,5 @@
 pub mod Rows
 mod Arms
+mod Order
+mod Readings
 pub mod Weights

@@ -33,10 +33,10 @@ joined test [] = true
 joined test (first ∷ rows) = joinedFrom test first rows
 
 module _ (test : Row → Row → Bool) (low high : Row) (rows : List Row) (t : T (joinedFrom test low (high ∷ rows))) where
-  here : T (test low high)
+  pub here : T (test low high)
   here = and-l (test low high) (joinedFrom test high rows) t
 
-  after : T (joinedFrom test high rows)
+  pub after : T (joinedFrom test high rows)
   after = and-r (test low high) (joinedFrom test high rows) t
 
 -- what holds of either choice in its own case holds of the choice
@@ -45,7 +45,7 @@ chosen P true v w p q = p refl
 chosen P false v w p q = q refl
 
 -- the same of the choice by whether x lies before a place
-placed : (P : ℕ → Type 0) (x place v w : ℕ) → (x < place → P v) → (place ≤ x → P w) → P (cond (ltb x place) v w)
+pub placed : (P : ℕ → Type 0) (x place v w : ℕ) → (x < place → P v) → (place ≤ x → P w) → P (cond (ltb x place) v w)
 placed P x place v w p q = chosen P (ltb x place) v w (λ t. p (ltb-true x place t)) (λ f. q (ltb-false x place f))
 
 -- Exact readings.

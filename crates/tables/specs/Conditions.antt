@@ -1,11 +1,27 @@
--- It serves the code alone. What the reading between two rows asks of its unit and of where x lies.
-use Prim.Native.Nat.{ℕ, _≤_, _<_}
+-- It serves the code alone. The row at a place, and what a reading between two rows asks of its unit and of where x lies.
+use mathlib.Core.List.{List}
+use Prim.Native.Nat.{ℕ, _+_, _≤_, _<_}
+use lib.ListN.{getD}
 use Rattle.ticks.specs.Ticks.{T}
 use Rattle.tables.specs.declared.Row.{Row}
-use Rattle.tables.specs.Tables.{at}
+use Rattle.tables.specs.declared.shares.Share.{Share}
+use Rattle.tables.specs.Tables.{row, at, shareDays}
+
+abbrev pub rowAt : List Row → ℕ → Row
+rowAt rows place = getD rows place (row 0 0)
 
 -- of a unit, and of an x that lies between two rows
 pub record Between (unit x : ℕ) (low high : Row) : Type 0 where
   pub unit-fits : unit ≤ T
   pub from-low : at low ≤ x
   pub before-high : x < at high
+
+-- Each share has so many rows at days.
+abbrev pub dayCount : ℕ
+dayCount = 12
+
+-- of an x that lies within so many lines of a share, from the row at a place on
+pub record Within (lines : ℕ) (share : Share) (place x : ℕ) : Type 0 where
+  pub at-days : place + lines < dayCount
+  pub from-low : at (rowAt (shareDays share) place) ≤ x
+  pub before-high : x < at (rowAt (shareDays share) (place + lines))

@@ -1,11 +1,12 @@
 -- The promise rests on it. The rows of document 01, "Coefficients", as they stand there, and a table read between them.
 use Prim.Native.Nat.{ℕ, _+_, _-_, _*_, _/_}
 use mathlib.Core.Bool.{cond}
-use mathlib.Core.List.{List, [], _∷_}
+use mathlib.Core.List.{List, [], _∷_, _++_}
 use lib.Dec.{ltb}
 use Rattle.tables.specs.declared.Row.{Row}
 use Rattle.ticks.specs.Ticks.{ticksPerUnit, T}
-use Rattle.tables.specs.declared.Table.{Table}
+use Rattle.tables.specs.declared.factors.Factor.{Factor}
+use Rattle.tables.specs.declared.shares.Share.{Share}
 
 -- The papers print a coefficient with two decimals.
 abbrev pub hundred : ℕ
@@ -63,35 +64,43 @@ ssfRows = inches 1 104 ∷ inches 2 96 ∷ inches 3 86 ∷ inches 4 77 ∷ inche
 abbrev pub mcfRows : List Row
 mcfRows = days 3 114 ∷ days 5 107 ∷ days 7 100 ∷ days 10 96 ∷ days 20 84 ∷ days 30 72 ∷ days 40 60 ∷ []
 
--- "Creep share, days 0 1 2 5 7 10 20 30 60 90 180 365: 0 .08 .15 .18 .23 .24 .30 .35 .45 .51 .61 .74";
--- "Both reach 1.00 at hour 438,000 of the member", where the clock reads `life`.
-abbrev pub creepShareRows : ℕ → List Row
-creepShareRows life =
+unfoldable pub rowsOf : Factor → List Row
+rowsOf Factor.Scf = scfRows
+rowsOf Factor.Ssf = ssfRows
+rowsOf Factor.Mcf = mcfRows
+
+-- "Whole 102,400ths, exact." for SCF and SSF; "Whole 72,000ths, exact." for MCF
+abbrev pub unitOf : Factor → ℕ
+unitOf Factor.Scf = 102400
+unitOf Factor.Ssf = 102400
+unitOf Factor.Mcf = 72000
+
+-- a factor at x
+unfoldable pub factorReading : Factor → ℕ → ℕ
+unfolding reading rowsOf
+factorReading factor x = reading (unitOf factor) (rowsOf factor) x
+
+-- "Creep share, days 0 1 2 5 7 10 20 30 60 90 180 365: 0 .08 .15 .18 .23 .24 .30 .35 .45 .51 .61 .74"
+abbrev pub creepShareDays : List Row
+creepShareDays =
     days 0 0 ∷ days 1 8 ∷ days 2 15 ∷ days 5 18 ∷ days 7 23 ∷ days 10 24 ∷ days 20 30 ∷ days 30 35 ∷ days 60 45
-    ∷ days 90 51 ∷ days 180 61 ∷ days 365 74 ∷ row life 100 ∷ []
+    ∷ days 90 51 ∷ days 180 61 ∷ days 365 74 ∷ []
 
 -- "Shrinkage share, days 0 1 3 5 7 10 20 30 60 90 180 365: 0 .08 .15 .20 .22 .27 .36 .42 .55 .62 .68 .86"
-abbrev pub shrinkageShareRows : ℕ → List Row
-shrinkageShareRows life =
+abbrev pub shrinkageShareDays : List Row
+shrinkageShareDays =
     days 0 0 ∷ days 1 8 ∷ days 3 15 ∷ days 5 20 ∷ days 7 22 ∷ days 10 27 ∷ days 20 36 ∷ days 30 42 ∷ days 60 55
-    ∷ days 90 62 ∷ days 180 68 ∷ days 365 86 ∷ row life 100 ∷ []
+    ∷ days 90 62 ∷ days 180 68 ∷ days 365 86 ∷ []
 
-unfoldable pub rowsOf : Table → ℕ → List Row
-rowsOf Table.Scf life = scfRows
-rowsOf Table.Ssf life = ssfRows
-rowsOf Table.Mcf life = mcfRows
-rowsOf Table.CreepShare life = creepShareRows life
-rowsOf Table.ShrinkageShare life = shrinkageShareRows life
+abbrev pub shareDays : Share → List Row
+shareDays Share.Creep = creepShareDays
+shareDays Share.Shrinkage = shrinkageShareDays
 
--- "Whole 102,400ths, exact." for SCF and SSF; "Whole 72,000ths, exact." for MCF; "Rounded down to 1/T" for the shares
-abbrev pub unitOf : Table → ℕ
-unitOf Table.Scf = 102400
-unitOf Table.Ssf = 102400
-unitOf Table.Mcf = 72000
-unitOf Table.CreepShare = T
-unitOf Table.ShrinkageShare = T
+-- "Both reach 1.00 at hour 438,000 of the member", where the clock reads `life`.
+abbrev pub shareRows : Share → ℕ → List Row
+shareRows share life = shareDays share ++ (row life 100 ∷ [])
 
--- a table at x, its last row, if it has one that a clock decides, at `life`
-unfoldable pub tableReading : Table → ℕ → ℕ → ℕ
-unfolding reading rowsOf
-tableReading table life x = reading (unitOf table) (rowsOf table life) x
+-- a share at x, "Rounded down to 1/T"
+unfoldable pub shareReading : Share → ℕ → ℕ → ℕ
+unfolding reading
+shareReading share life x = reading T (shareRows share life) x

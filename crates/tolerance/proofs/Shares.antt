@@ -22,8 +22,8 @@ use Rattle.fraction.proofs.Distances.{within-weaken, within-resp-≈}
 use Rattle.tables.specs.declared.Row.{Row}
 use Rattle.coefficient.specs.declared.clocks.HoursSinceTransfer.{HoursSinceTransfer}
 use Rattle.coefficient.specs.declared.clocks.HoursSinceCuring.{HoursSinceCuring}
-use Rattle.tables.specs.Tables.{hundred, at, hundredths, weighed, reading, along as ticksAlong, creepShareRows, shrinkageShareRows}
-use Rattle.tables.specs.Tables.{rowsOf, tableReading}
+use Rattle.tables.specs.Tables.{hundred, at, hundredths, weighed, reading, along as ticksAlong, shareRows, shareReading}
+use Rattle.tables.specs.declared.shares.Share.the-variants.{Creep, Shrinkage}
 use Rattle.ticks.specs.Ticks.{T}
 use Rattle.tables.proofs.Weights.{by-way}
 use Rattle.coefficient.specs.Coefficients.{creepShare, shrinkageShare}
@@ -234,15 +234,15 @@ interval-share rows t x y on =
 -- creep's table and shrinkage's, as the clocks read them
 pub creep-share : (life start end : HoursSinceTransfer) → start .0 ≤ end .0
     → Share (creepShare life end - creepShare life start)
-    (shareOf (creepShareRows (life .0)) (end .0) ⊖ shareOf (creepShareRows (life .0)) (start .0))
-unfolding creepShare tableReading rowsOf
-creep-share life start end on = interval-share (creepShareRows (life .0)) tt (start .0) (end .0) on
+    (shareOf (shareRows Creep (life .0)) (end .0) ⊖ shareOf (shareRows Creep (life .0)) (start .0))
+unfolding creepShare shareReading
+creep-share life start end on = interval-share (shareRows Creep (life .0)) tt (start .0) (end .0) on
 
 pub shrinkage-share : (life start end : HoursSinceCuring) → start .0 ≤ end .0
     → Share (shrinkageShare life end - shrinkageShare life start)
-    (shareOf (shrinkageShareRows (life .0)) (end .0) ⊖ shareOf (shrinkageShareRows (life .0)) (start .0))
-unfolding shrinkageShare tableReading rowsOf
-shrinkage-share life start end on = interval-share (shrinkageShareRows (life .0)) tt (start .0) (end .0) on
+    (shareOf (shareRows Shrinkage (life .0)) (end .0) ⊖ shareOf (shareRows Shrinkage (life .0)) (start .0))
+unfolding shrinkageShare shareReading
+shrinkage-share life start end on = interval-share (shareRows Shrinkage (life .0)) tt (start .0) (end .0) on
 
 -- ---- a constant's part by a share: U·share/T, and shrinkage, S·share/T
 

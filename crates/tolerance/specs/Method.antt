@@ -9,7 +9,8 @@ use Rattle.logarithm.specs.Logarithm.{logarithm, serviceLife}
 use Rattle.ticks.specs.Ticks.{ticksPerUnit, T}
 use Rattle.coefficient.specs.declared.codes.Kind.{Kind}
 use Rattle.coefficient.specs.Coefficients.{sinceTransfer, sinceCuring, sinceTensioning}
-use Rattle.tables.specs.Tables.{creepShareRows, shrinkageShareRows}
+use Rattle.tables.specs.declared.shares.Share.{Share}
+use Rattle.tables.specs.Tables.{shareRows}
 use Rattle.fields.specs.Quantities.{Quantities, Age}
 use Rattle.member.specs.Member.{kindOf, steelOf, hoursOf}
 use Rattle.member.specs.Constants.{jacked}
@@ -65,8 +66,8 @@ module _ (choice : Choice) (q : Quantities) where
   abbrev pub endAt : ℕ → ℕ → End
   endAt moments hour = record {
     g = momentStress moments (q .eccentricity) (q .inertia);
-    creep = shareOf (creepShareRows (sinceTransfer (hoursOf q) serviceLife .0)) (sinceTransfer (hoursOf q) hour .0);
-    shrinkage = shareOf (shrinkageShareRows (sinceCuring (hoursOf q) serviceLife .0)) (sinceCuring (hoursOf q) hour .0);
+    creep = shareOf (shareRows Share.Creep (sinceTransfer (hoursOf q) serviceLife .0)) (sinceTransfer (hoursOf q) hour .0);
+    shrinkage = shareOf (shareRows Share.Shrinkage (sinceCuring (hoursOf q) serviceLife .0)) (sinceCuring (hoursOf q) hour .0);
     logarithm = choice .log (sinceTensioning (hoursOf q) hour .0);
   }
 

@@ -7,19 +7,19 @@ use Rattle.coefficient.proofs.mcf_of.Tie as tie
 enum-told : tie.Need-enum-told
 enum-told c = search needs
 
-table-reading-requires : tie.Need-table-reading-requires
-table-reading-requires c κs = search needs
+reading-requires : tie.Need-reading-requires
+reading-requires c κs = search needs
 
 enum-told-2 : tie.Need-enum-told-2
 enum-told-2 c = search needs
 
 returns : tie.Need-returns
 unfolding mcf
-returns c = rw (c .before .enum-told .given .1) (c .table-reading .ensures)
+returns c = rw (c .before .enum-told .given .1) (c .reading .ensures)
 
 returns-2 : tie.Need-returns-2
 unfolding mcf
 returns-2 c = rw (c .enum-told2 .given .1)
 
 pub mcf-of-spec : {M : Type 1} → statement M
-mcf-of-spec = tie.close (tie.spec enum-told table-reading-requires enum-told-2 returns returns-2)
+mcf-of-spec = tie.close (tie.spec enum-told reading-requires enum-told-2 returns returns-2)

@@ -4,12 +4,12 @@ use Rattle.coefficient.specs.Coefficients.{scf}
 use Rattle.coefficient.proofs.scf_of.Statement.{statement}
 use Rattle.coefficient.proofs.scf_of.Tie as tie
 
-table-reading-requires : tie.Need-table-reading-requires
-table-reading-requires c κs = search needs
+reading-requires : tie.Need-reading-requires
+reading-requires c κs = search needs
 
 returns : tie.Need-returns
 unfolding scf
-returns c = c .table-reading .ensures
+returns c = c .reading .ensures
 
 pub scf-of-spec : {M : Type 1} → statement M
-scf-of-spec = tie.close (tie.spec table-reading-requires returns)
+scf-of-spec = tie.close (tie.spec reading-requires returns)

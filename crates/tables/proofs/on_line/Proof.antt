@@ -13,26 +13,26 @@ sum-fits c =
     let args = c .before .before .before .args in
     weighed-fits (args .x) (args .low) (args .high) (omega arith) (omega arith) (omega arith) (omega arith) (omega arith)
 
-sub-to-high : tie.Need-sub-to-high
-sub-to-high c = search needs
+cast-from : tie.Need-cast-from
+cast-from c = search needs
 
-cast-to-high : tie.Need-cast-to-high
-cast-to-high c = search needs
-
-sub-from-low : tie.Need-sub-from-low
-sub-from-low c = search needs
-
-cast-from-low : tie.Need-cast-from-low
-cast-from-low c = search needs
+cast-to : tie.Need-cast-to
+cast-to c = search needs
 
 cast-weighed : tie.Need-cast-weighed
 cast-weighed c = search needs
+
+sub-weighed : tie.Need-sub-weighed
+sub-weighed c = search needs
 
 mul-weighed : tie.Need-mul-weighed
 mul-weighed c = omega (arith, sum-fits c)
 
 cast-weighed-2 : tie.Need-cast-weighed-2
 cast-weighed-2 c = search needs
+
+sub-weighed-2 : tie.Need-sub-weighed-2
+sub-weighed-2 c = search needs
 
 mul-weighed-2 : tie.Need-mul-weighed-2
 mul-weighed-2 c = omega (arith, sum-fits (c .before))
@@ -45,9 +45,6 @@ mul-result c = record { fits = product-fits (c .before .before .before .before .
 
 sub-result : tie.Need-sub-result
 sub-result c = search needs
-
-cast-result : tie.Need-cast-result
-cast-result c = search needs
 
 mul-result-2 : tie.Need-mul-result-2
 mul-result-2 c = search needs
@@ -62,18 +59,17 @@ pub on-line-spec : {M : Type 1} → statement M
 on-line-spec =
     tie.close
     (tie.spec
-    sub-to-high
-    cast-to-high
-    sub-from-low
-    cast-from-low
+    cast-from
+    cast-to
     cast-weighed
+    sub-weighed
     mul-weighed
     cast-weighed-2
+    sub-weighed-2
     mul-weighed-2
     add-weighed
     mul-result
     sub-result
-    cast-result
     mul-result-2
     div-result
     returns)

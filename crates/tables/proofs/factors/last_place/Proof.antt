@@ -1,8 +1,8 @@
 -- Each table's last place is one less than the number of its rows. Assumes nothing.
 use borrow.Author.Needs.{needs}
 use Rattle.tables.specs.Tables.{rowsOf}
-use Rattle.tables.proofs.last_place.Statement.{statement}
-use Rattle.tables.proofs.last_place.Tie as tie
+use Rattle.tables.proofs.factors.last_place.Statement.{statement}
+use Rattle.tables.proofs.factors.last_place.Tie as tie
 
 pub last-place-spec : {M : Type 1} → statement M
 unfolding rowsOf
@@ -12,10 +12,6 @@ last-place-spec =
     (λ c. search needs)
     (λ c. search needs)
     (λ c. search needs)
-    (λ c. search needs)
-    (λ c. search needs)
     (λ c. rw (c .enum-told .given .1))
     (λ c. rw (c .enum-told2 .given .1))
-    (λ c. rw (c .enum-told3 .given .1))
-    (λ c. rw (c .enum-told4 .given .1))
-    (λ c. rw (c .enum-told5 .given .1)))
+    (λ c. rw (c .enum-told3 .given .1)))

@@ -1,11 +1,11 @@
 -- Each arm gives the row that stands at its place; only the last place is left for the last arm. Assumes nothing.
 use borrow.Author.Needs.{needs}
 use Rattle.tables.proofs.Arms.{last-arm}
-use Rattle.tables.proofs.shrinkage_share_row.Statement.{statement}
-use Rattle.tables.proofs.shrinkage_share_row.Tie as tie
+use Rattle.tables.proofs.shares.shrinkage_row.Statement.{statement}
+use Rattle.tables.proofs.shares.shrinkage_row.Tie as tie
 
-pub shrinkage-share-row-spec : {M : Type 1} → statement M
-shrinkage-share-row-spec =
+pub shrinkage-row-spec : {M : Type 1} → statement M
+shrinkage-row-spec =
     tie.close
     (tie.spec
     (λ c. search needs)
@@ -29,5 +29,4 @@ shrinkage-share-row-spec =
     (λ c. rw (c .match .keys9))
     (λ c. rw (c .match .keys10))
     (λ c. rw (c .match .keys11))
-    (λ c. rw (c .match .keys12))
-    (λ c. rw (last-arm (c .before .args .place) 12 (c .match .rest) (c .before .pre))))
+    (λ c. rw (last-arm (c .before .args .place) 11 (c .match .rest) (c .before .pre))))

@@ -7,18 +7,16 @@ use native.Mathlib.Numerals.{add-one}
 use native.Mathlib.Omega.{arith}
 use borrow.Author.Needs.{needs}
 use borrow.Author.Tests.{lt-ltb, le-ltb}
-use lib.ListN.{length, getD, drop, drop-of-length-le}
+use lib.ListN.{length, drop, drop-of-length-le}
 use lib.Seq.{drop-cons}
 use Rattle.tables.specs.declared.Row.{Row}
-use Rattle.tables.specs.declared.Table.{Table}
-use Rattle.tables.specs.declared.Table.the-variants.{Scf, Ssf, Mcf, CreepShare, ShrinkageShare}
-use Rattle.tables.specs.Tables.{row, at, atRow, onLine, along, reading, rowsOf, unitOf, tableReading}
+use Rattle.tables.specs.declared.factors.Factor.{Factor}
+use Rattle.tables.specs.declared.factors.Factor.the-variants.{Scf, Ssf, Mcf}
+use Rattle.tables.specs.Tables.{row, at, atRow, onLine, along, reading, rowsOf, unitOf, factorReading}
+use Rattle.tables.specs.Conditions.{rowAt}
 use Rattle.ticks.specs.Ticks.{T}
-use Rattle.tables.proofs.table_reading.Statement.{statement}
-use Rattle.tables.proofs.table_reading.Tie as tie
-
-abbrev rowAt : List Row → ℕ → Row
-rowAt rows place = getD rows place (row 0 0)
+use Rattle.tables.proofs.factors.reading.Statement.{statement}
+use Rattle.tables.proofs.factors.reading.Tie as tie
 
 -- The loop's invariant: x is not before `low`, and the reading `value` is the one from `low` along the rows past `place`. What the
 -- calls need of unit and last place stands beside it.
@@ -53,55 +51,43 @@ module _ {rows : List Row} {value unit x last : ℕ} {low : Row} {place : ℕ} (
     unfolding along
     goes-on h = record { small = f .small; count = f .count; passed = h; same = next ∙ rw (le-ltb x (at high) h) }
 
--- a table has as many rows at any life
-same-length : (table : Table) (life : ℕ) → length (rowsOf table 0) ≡ length (rowsOf table life)
-unfolding rowsOf
-same-length Scf life = refl
-same-length Ssf life = refl
-same-length Mcf life = refl
-same-length CreepShare life = refl
-same-length ShrinkageShare life = refl
-
-small-unit : (table : Table) → unitOf table ≤ T
+small-unit : (factor : Factor) → unitOf factor ≤ T
 small-unit Scf = omega arith
 small-unit Ssf = omega arith
 small-unit Mcf = omega arith
-small-unit CreepShare = omega arith
-small-unit ShrinkageShare = omega arith
 
 -- what is known before the loop: the unit, the number of rows and the first row
-module _ (table : Table) (life x : ℕ) {unit last : ℕ} {low : Row}
-    (u : unit ≡ unitOf table) (n : suc last ≡ length (rowsOf table 0)) (e : low ≡ rowAt (rowsOf table life) 0) where
+module _ (factor : Factor) (x : ℕ) {unit last : ℕ} {low : Row}
+    (u : unit ≡ unitOf factor) (n : suc last ≡ length (rowsOf factor)) (e : low ≡ rowAt (rowsOf factor) 0) where
   -- the rows begin with `low`
-  first : rowsOf table life ≡ low ∷ drop 1 (rowsOf table life)
+  first : rowsOf factor ≡ low ∷ drop 1 (rowsOf factor)
   first =
-      let all = same-length table life in
-      let some : 0 < length (rowsOf table life) = omega arith in
-      rw e (drop-cons (rowsOf table life) 0 (row 0 0) some)
+      let some : 0 < length (rowsOf factor) = omega arith in
+      rw e (drop-cons (rowsOf factor) 0 (row 0 0) some)
 
-  start : tableReading table life x ≡ reading unit (low ∷ drop 1 (rowsOf table life)) x
-  unfolding tableReading
+  start : factorReading factor x ≡ reading unit (low ∷ drop 1 (rowsOf factor)) x
+  unfolding factorReading
   start = ap₂ (λ (m : ℕ) (rows : List Row). reading m rows x) (sym u) first
 
-  before-first : x < at low → atRow unit low ≡ tableReading table life x
+  before-first : x < at low → atRow unit low ≡ factorReading factor x
   unfolding reading
   before-first h = sym (start ∙ rw (lt-ltb x (at low) h))
 
-  begins : at low ≤ x → Follows (rowsOf table life) (tableReading table life x) unit x last low 0
+  begins : at low ≤ x → Follows (rowsOf factor) (factorReading factor x) unit x last low 0
   unfolding reading
   begins h = record {
-    small = omega (arith, small-unit table);
-    count = n ∙ same-length table life;
+    small = omega (arith, small-unit factor);
+    count = n;
     passed = h;
     same = start ∙ rw (le-ltb x (at low) h);
   }
 
 abbrev Inv-loop : tie.InvT-loop
-Inv-loop table life x unit last low₀ place₀ low place =
-    Follows (rowsOf table life) (tableReading table life x) unit x last low place
+Inv-loop factor x unit last low₀ place₀ low place =
+    Follows (rowsOf factor) (factorReading factor x) unit x last low place
 
 abbrev μ-loop : tie.MeasureT-loop
-μ-loop table life x unit last low₀ place₀ low place = last - place
+μ-loop factor x unit last low₀ place₀ low place = last - place
 
 unit-of-requires : tie.Need-unit-of-requires Inv-loop μ-loop
 unit-of-requires c κs = search needs
@@ -110,24 +96,24 @@ last-place-requires : tie.Need-last-place-requires Inv-loop μ-loop
 last-place-requires c κs = search needs
 
 row-at-requires : tie.Need-row-at-requires Inv-loop μ-loop
-row-at-requires c κs = omega (arith, same-length (c .before .before .args .table) (c .before .before .args .life))
+row-at-requires c κs = search needs
 
 at-row-requires : tie.Need-at-row-requires Inv-loop μ-loop
-at-row-requires c κs = omega (arith, small-unit (c .before .before .before .before .before .args .table))
+at-row-requires c κs = omega (arith, small-unit (c .before .before .before .before .before .args .factor))
 
 returns : tie.Need-returns Inv-loop μ-loop
 returns c =
     let first = c .before .before .before in
     let args = first .before .before .before .args in
     c .at-row .ensures
-    ∙ before-first (args .table) (args .life) (args .x) (first .before .before .unit-of .ensures)
+    ∙ before-first (args .factor) (args .x) (first .before .before .unit-of .ensures)
     (first .before .last-place .ensures) (first .row-at .ensures) (c .before .if1 .taken)
 
 loop-holds : tie.Need-loop-holds Inv-loop μ-loop
 loop-holds c =
     let first = c .before .before in
     let args = first .before .before .before .args in
-    begins (args .table) (args .life) (args .x) (first .before .before .unit-of .ensures)
+    begins (args .factor) (args .x) (first .before .before .unit-of .ensures)
     (first .before .last-place .ensures) (first .row-at .ensures) (c .if1 .left)
 
 add-place : tie.Need-add-place Inv-loop μ-loop
@@ -160,8 +146,8 @@ at-row-requires-2 c κs = search needs
 returns-3 : tie.Need-returns-3 Inv-loop μ-loop
 returns-3 c = c .at-row2 .ensures ∙ ends (c .before .before .loop .inv) (c .before .loop-test .left)
 
-pub table-reading-spec : {M : Type 1} → statement M
-table-reading-spec =
+pub reading-spec : {M : Type 1} → statement M
+reading-spec =
     tie.close
     (tie.spec
     Inv-loop

@@ -1,8 +1,8 @@
 -- Each table's rows are read by its own function, whose contract is this one's in that table's case. Assumes nothing.
 use borrow.Author.Needs.{needs}
 use Rattle.tables.specs.Tables.{rowsOf}
-use Rattle.tables.proofs.row_at.Statement.{statement}
-use Rattle.tables.proofs.row_at.Tie as tie
+use Rattle.tables.proofs.factors.row_at.Statement.{statement}
+use Rattle.tables.proofs.factors.row_at.Tie as tie
 
 pub row-at-spec : {M : Type 1} → statement M
 unfolding rowsOf
@@ -15,12 +15,6 @@ row-at-spec =
     (λ c κs. rw (c .enum-told2 .given .1) at (c .before .before .pre))
     (λ c. search needs)
     (λ c κs. rw (c .enum-told3 .given .1) at (c .before .before .pre))
-    (λ c. search needs)
-    (λ c κs. rw (c .enum-told4 .given .1) at (c .before .before .pre))
-    (λ c. search needs)
-    (λ c κs. rw (c .enum-told5 .given .1) at (c .before .before .pre))
     (λ c. rw (c .before .enum-told .given .1) (c .scf-row .ensures))
     (λ c. rw (c .before .enum-told2 .given .1) (c .ssf-row .ensures))
-    (λ c. rw (c .before .enum-told3 .given .1) (c .mcf-row .ensures))
-    (λ c. rw (c .before .enum-told4 .given .1) (c .creep-share-row .ensures))
-    (λ c. rw (c .before .enum-told5 .given .1) (c .shrinkage-share-row .ensures)))
+    (λ c. rw (c .before .enum-told3 .given .1) (c .mcf-row .ensures)))

@@ -1,8 +1,8 @@
 -- Each arm gives the row that stands at its place; only the last place is left for the last arm. Assumes nothing.
 use borrow.Author.Needs.{needs}
 use Rattle.tables.proofs.Arms.{last-arm}
-use Rattle.tables.proofs.ssf_row.Statement.{statement}
-use Rattle.tables.proofs.ssf_row.Tie as tie
+use Rattle.tables.proofs.factors.ssf_row.Statement.{statement}
+use Rattle.tables.proofs.factors.ssf_row.Tie as tie
 
 pub ssf-row-spec : {M : Type 1} → statement M
 ssf-row-spec =

@@ -1,13 +1,16 @@
 -- Each arm gives the row that stands at its place; only the last place is left for the last arm. Assumes nothing.
 use borrow.Author.Needs.{needs}
 use Rattle.tables.proofs.Arms.{last-arm}
-use Rattle.tables.proofs.scf_row.Statement.{statement}
-use Rattle.tables.proofs.scf_row.Tie as tie
+use Rattle.tables.proofs.factors.mcf_row.Statement.{statement}
+use Rattle.tables.proofs.factors.mcf_row.Tie as tie
 
-pub scf-row-spec : {M : Type 1} → statement M
-scf-row-spec =
+pub mcf-row-spec : {M : Type 1} → statement M
+mcf-row-spec =
     tie.close
     (tie.spec
+    (λ c. search needs)
+    (λ c. search needs)
+    (λ c. search needs)
     (λ c. search needs)
     (λ c. search needs)
     (λ c. search needs)
@@ -16,4 +19,6 @@ scf-row-spec =
     (λ c. rw (c .match .keys2))
     (λ c. rw (c .match .keys3))
     (λ c. rw (c .match .keys4))
-    (λ c. rw (last-arm (c .before .args .place) 4 (c .match .rest) (c .before .pre))))
+    (λ c. rw (c .match .keys5))
+    (λ c. rw (c .match .keys6))
+    (λ c. rw (last-arm (c .before .args .place) 6 (c .match .rest) (c .before .pre))))

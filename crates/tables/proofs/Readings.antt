@@ -1,0 +1,71 @@
+-- The readings of both shares, told by the rows that the code has in hand: each share's rows at days stand in order, and the row at the
+-- last place is the last of them. Assumes nothing.
+use mathlib.Core.Path.{_≡_, refl, sym, ap, _∙_}
+use mathlib.Core.List.{[], _∷_}
+use Prim.Native.Nat.{ℕ, suc, _≤_, _<_}
+use native.Mathlib.Omega.{arith}
+use lib.Dec.{T as Holds}
+use lib.ListN.{length}
+use borrow.Author.Tests.{lt-ltb, le-ltb}
+use Rattle.ticks.specs.Ticks.{T}
+use Rattle.tables.specs.declared.Row.{Row}
+use Rattle.tables.specs.declared.shares.Share.{Share}
+use Rattle.tables.specs.declared.shares.Share.the-variants.{Creep, Shrinkage}
+use Rattle.tables.specs.Tables.{row, at, atRow, onLine, along, reading, shareDays, shareReading}
+use Rattle.tables.specs.Conditions.{rowAt, Between, dayCount, Within}
+use Rattle.tables.proofs.Rows.{lastOf}
+use Rattle.tables.proofs.Order.{ordered, on-its-line, before-last, from-last}
+
+in-order : (share : Share) → Holds (ordered (shareDays share))
+in-order Creep = tt
+in-order Shrinkage = tt
+
+last-day : (share : Share) → rowAt (shareDays share) 11 ≡ lastOf (shareDays share)
+last-day Creep = refl
+last-day Shrinkage = refl
+
+all-days : (share : Share) → length (shareDays share) ≡ dayCount
+all-days Creep = refl
+all-days Shrinkage = refl
+
+-- between the first row and the seventh, and between the sixth and the last, there are six lines
+pub first-six : (share : Share) (x : ℕ) {seventh : Row} → seventh ≡ rowAt (shareDays share) 6 → x < at seventh → Within 6 share 0 x
+first-six Creep x e to = record { at-days = omega arith; from-low = omega arith; before-high = rw e at to }
+first-six Shrinkage x e to = record { at-days = omega arith; from-low = omega arith; before-high = rw e at to }
+
+pub last-six : (share : Share) (x : ℕ) {seventh last : Row} → seventh ≡ rowAt (shareDays share) 6
+    → last ≡ rowAt (shareDays share) 11 → at seventh ≤ x → x < at last → Within 6 share 5 x
+last-six Creep x e l from to = record { at-days = omega arith; from-low = omega (arith, ap at e); before-high = rw l at to }
+last-six Shrinkage x e l from to = record { at-days = omega arith; from-low = omega (arith, ap at e); before-high = rw l at to }
+
+module _ (share : Share) (x : ℕ) where
+  -- between the rows at two neighbouring places
+  pub line-read : (place next : ℕ) {low high : Row} → next ≡ suc place → next < dayCount
+      → low ≡ rowAt (shareDays share) place → high ≡ rowAt (shareDays share) next → Between T x low high
+      → onLine T x low high ≡ reading T (shareDays share) x
+  line-read place next n h l e b =
+      let there : suc place < length (shareDays share) = omega (arith, all-days share) in
+      rw (l, e, n) (sym (on-its-line T x (shareDays share) place (in-order share) there (rw l at (b .from-low))
+      (rw (e, n) at (b .before-high))))
+
+  module _ (life : ℕ) {last : Row} (l : last ≡ rowAt (shareDays share) 11) where
+    found : last ≡ lastOf (shareDays share)
+    found = l ∙ last-day share
+
+    -- before the last row at a day the end of life does not matter
+    pub days-read : x < at last → reading T (shareDays share) x ≡ shareReading share life x
+    unfolding shareReading
+    days-read to = sym (before-last T x (row life 100 ∷ []) (shareDays share) (rw found at to))
+
+    -- from that row on a share goes to 1.00
+    to-one : at last ≤ x → shareReading share life x ≡ along T x last (row life 100 ∷ [])
+    unfolding shareReading
+    to-one from = rw found (from-last T x (row life 100 ∷ []) (shareDays share) (in-order share) (rw found at from))
+
+    pub end-read : at last ≤ x → x < life → onLine T x last (row life 100) ≡ shareReading share life x
+    unfolding along
+    end-read from to = sym (to-one from ∙ rw (lt-ltb x life to))
+
+    pub one-read : at last ≤ x → life ≤ x → atRow T (row life 100) ≡ shareReading share life x
+    unfolding along
+    one-read from past = sym (to-one from ∙ rw (le-ltb x life past))
