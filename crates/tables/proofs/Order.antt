@@ -34,6 +34,19 @@ from-first low [] (suc place) t h = absurd (omega arith)
 from-first low (high ∷ rows) (suc place) t h =
     le-trans (not-later low high rows t) (from-first high rows place (after noLater low high rows t) (omega arith))
 
+-- and none behind the last
+up-to-last : (low : Row) (rows : List Row) (place : ℕ) → T (joinedFrom noLater low rows) → place < length (low ∷ rows)
+    → at (rowAt (low ∷ rows) place) ≤ at (lastFrom low rows)
+up-to-last low [] zero t h = le-refl (at low)
+up-to-last low [] (suc place) t h = absurd (omega arith)
+up-to-last low (high ∷ rows) zero t h =
+    le-trans (not-later low high rows t) (up-to-last high rows zero (after noLater low high rows t) (omega arith))
+up-to-last low (high ∷ rows) (suc place) t h = up-to-last high rows place (after noLater low high rows t) (omega arith)
+
+pub to-last : (rows : List Row) (place : ℕ) → T (ordered rows) → place < length rows → at (rowAt rows place) ≤ at (lastOf rows)
+to-last [] place t h = absurd t
+to-last (first ∷ rows) place t h = up-to-last first rows place t h
+
 module _ (unit x : ℕ) where
   along-line : (low : Row) (rows : List Row) (place : ℕ) → T (joinedFrom noLater low rows) → place < length rows
       → at (rowAt (low ∷ rows) place) ≤ x → x < at (rowAt rows place)

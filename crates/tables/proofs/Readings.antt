@@ -2,7 +2,7 @@
 -- last place is the last of them. Assumes nothing.
 use mathlib.Core.Path.{_≡_, refl, sym, ap, _∙_}
 use mathlib.Core.List.{[], _∷_}
-use Prim.Native.Nat.{ℕ, suc, _≤_, _<_}
+use Prim.Native.Nat.{ℕ, suc, _+_, _≤_, _<_}
 use native.Mathlib.Omega.{arith}
 use lib.Dec.{T as Holds}
 use lib.ListN.{length}
@@ -14,7 +14,7 @@ use Rattle.tables.specs.declared.shares.Share.the-variants.{Creep, Shrin
 use Rattle.tables.specs.Tables.{row, at, atRow, onLine, along, reading, shareDays, shareReading}
 use Rattle.tables.specs.Conditions.{rowAt, Between, dayCount, Within}
 use Rattle.tables.proofs.Rows.{lastOf}
-use Rattle.tables.proofs.Order.{ordered, on-its-line, before-last, from-last}
+use Rattle.tables.proofs.Order.{ordered, to-last, on-its-line, before-last, from-last}
 
 in-order : (share : Share) → Holds (ordered (shareDays share))
 in-order Creep = tt
@@ -48,14 +48,17 @@ module _ (share : Share) (x : ℕ) where
       rw (l, e, n) (sym (on-its-line T x (shareDays share) place (in-order share) there (rw l at (b .from-low))
       (rw (e, n) at (b .before-high))))
 
+  -- before the last row at a day the end of life does not matter
+  pub days-read : (life : ℕ) {lines place : ℕ} → Within lines share place x → reading T (shareDays share) x ≡ shareReading share life x
+  unfolding shareReading
+  days-read life {lines} {place} w =
+      let there : place + lines < length (shareDays share) = omega (arith, all-days share) in
+      let early = to-last (shareDays share) (place + lines) (in-order share) there in
+      sym (before-last T x (row life 100 ∷ []) (shareDays share) (omega (arith, w .before-high, early)))
+
   module _ (life : ℕ) {last : Row} (l : last ≡ rowAt (shareDays share) 11) where
     found : last ≡ lastOf (shareDays share)
     found = l ∙ last-day share
-
-    -- before the last row at a day the end of life does not matter
-    pub days-read : x < at last → reading T (shareDays share) x ≡ shareReading share life x
-    unfolding shareReading
-    days-read to = sym (before-last T x (row life 100 ∷ []) (shareDays share) (rw found at to))
 
     -- from that row on a share goes to 1.00
     to-one : at last ≤ x → shareReading share life x ≡ along T x last (row life 100 ∷ [])

@@ -105,11 +105,11 @@ fn within_six(share: Share, place: u32, x: u32) -> u64
 pub fn reading(share: Share, life: u32, x: u32) -> u64
     ensures { λ v. ⌜ v ≡ shareReading share life x ⌝ }
 {
+    if x < row_at(share, FIRST_SIX_END).0 {
+        return within_six(share, 0, x);
+    }
     let last = row_at(share, LAST);
     if x < last.0 {
-        if x < row_at(share, FIRST_SIX_END).0 {
-            return within_six(share, 0, x);
-        }
         return within_six(share, LAST_SIX_BEGIN, x);
     }
     let end = Row(life, 100);

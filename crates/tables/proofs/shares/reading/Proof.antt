@@ -9,34 +9,32 @@ use Rattle.tables.proofs.shares.reading.Tie as tie
 row-at-requires : tie.Need-row-at-requires
 row-at-requires c κs = search needs
 
-row-at-requires-2 : tie.Need-row-at-requires-2
-row-at-requires-2 c κs = search needs
-
 within-six-requires : tie.Need-within-six-requires
 within-six-requires c κs =
-    let args = c .before .before .before .before .before .before .args in
-    first-six (args .share) (args .x) (c .before .before .row-at2 .ensures) (c .if2 .taken)
+    let args = c .before .before .before .args in
+    first-six (args .share) (args .x) (c .before .before .row-at .ensures) (c .if1 .taken)
 
 returns : tie.Need-returns
 returns c =
-    let last = c .before .before .before .before .before .before in
-    let args = last .before .args in
+    let args = c .before .before .before .before .args in
     c .within-six .ensures
-    ∙ days-read (args .share) (args .x) (args .life) (last .row-at .ensures) (c .before .before .before .before .if1 .taken)
+    ∙ days-read (args .share) (args .x) (args .life) (within-six-requires (c .before) (c .within-six .lifetimes))
+
+row-at-requires-2 : tie.Need-row-at-requires-2
+row-at-requires-2 c κs = search needs
 
 within-six-requires-2 : tie.Need-within-six-requires-2
 within-six-requires-2 c κs =
-    let last = c .before .before .before .before .before in
-    let args = last .before .args in
-    last-six (args .share) (args .x) (c .before .before .row-at2 .ensures) (last .row-at .ensures) (c .if2 .left)
-    (c .before .before .before .if1 .taken)
+    let seventh = c .before .before .before .before .before in
+    let args = seventh .before .args in
+    last-six (args .share) (args .x) (seventh .row-at .ensures) (c .before .before .row-at2 .ensures)
+    (c .before .before .before .if1 .left) (c .if2 .taken)
 
 returns-2 : tie.Need-returns-2
 returns-2 c =
-    let last = c .before .before .before .before .before .before in
-    let args = last .before .args in
+    let args = c .before .before .before .before .before .before .before .args in
     c .within-six2 .ensures
-    ∙ days-read (args .share) (args .x) (args .life) (last .row-at .ensures) (c .before .before .before .before .if1 .taken)
+    ∙ days-read (args .share) (args .x) (args .life) (within-six-requires-2 (c .before) (c .within-six2 .lifetimes))
 
 on-line-requires : tie.Need-on-line-requires
 on-line-requires c κs = search needs
@@ -44,9 +42,9 @@ on-line-requires c κs = search needs
 returns-3 : tie.Need-returns-3
 returns-3 c =
     let last = c .before .before .before .before in
-    let args = last .before .args in
+    let args = last .before .before .before .before .args in
     c .on-line .ensures
-    ∙ end-read (args .share) (args .x) (args .life) (last .row-at .ensures) (c .before .before .if1 .left) (c .before .if3 .taken)
+    ∙ end-read (args .share) (args .x) (args .life) (last .row-at2 .ensures) (c .before .before .if2 .left) (c .before .if3 .taken)
 
 at-row-requires : tie.Need-at-row-requires
 at-row-requires c κs = search needs
@@ -54,18 +52,18 @@ at-row-requires c κs = search needs
 returns-4 : tie.Need-returns-4
 returns-4 c =
     let last = c .before .before .before .before in
-    let args = last .before .args in
+    let args = last .before .before .before .before .args in
     c .at-row .ensures
-    ∙ one-read (args .share) (args .x) (args .life) (last .row-at .ensures) (c .before .before .if1 .left) (c .before .if3 .left)
+    ∙ one-read (args .share) (args .x) (args .life) (last .row-at2 .ensures) (c .before .before .if2 .left) (c .before .if3 .left)
 
 pub reading-spec : {M : Type 1} → statement M
 reading-spec =
     tie.close
     (tie.spec
     row-at-requires
-    row-at-requires-2
     within-six-requires
     returns
+    row-at-requires-2
     within-six-requires-2
     returns-2
     on-line-requires
