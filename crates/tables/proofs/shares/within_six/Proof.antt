@@ -24,9 +24,10 @@ row-at-requires-3 c κs = search needs
 
 on-line-requires : tie.Need-on-line-requires
 on-line-requires c κs =
+    let start = c .before .before .before .before .before .before .before in
     record {
       unit-fits = omega arith;
-      from-low = rw (c .row-at3 .ensures) (c .before .before .before .before .before .before .before .pre .from-low);
+      from-low = rw (c .row-at3 .ensures) (start .pre .from-low);
       before-high = c .before .if2 .taken;
     }
 
@@ -60,10 +61,11 @@ on-line-requires-3 c κs = search needs
 
 returns-3 : tie.Need-returns-3
 returns-3 c =
-    let args = c .before .before .before .before .before .before .before .before .before .before .args in
+    let fourth = c .before .before .before .before .before .before .before .before .before in
+    let args = fourth .before .args in
     c .on-line3 .ensures
     ∙ line-read (args .share) (args .x) (args .place + 2) (args .place + 3) (omega arith) (omega arith)
-    (c .before .before .before .row-at4 .ensures) (c .before .before .before .before .before .before .before .before .before .row-at .ensures)
+    (c .before .before .before .row-at4 .ensures) (fourth .row-at .ensures)
     (on-line-requires-3 (c .before) (c .on-line3 .lifetimes))
 
 add-row-at-4 : tie.Need-add-row-at-4
@@ -108,10 +110,11 @@ row-at-requires-7 c κs = search needs
 
 on-line-requires-6 : tie.Need-on-line-requires-6
 on-line-requires-6 c κs =
+    let start = c .before .before .before .before .before .before .before .before .before .before in
     record {
       unit-fits = omega arith;
       from-low = c .before .if5 .left;
-      before-high = rw (c .row-at7 .ensures) (c .before .before .before .before .before .before .before .before .before .before .pre .before-high);
+      before-high = rw (c .row-at7 .ensures) (start .pre .before-high);
     }
 
 returns-6 : tie.Need-returns-6
