@@ -1,8 +1,9 @@
 -- The readings of both shares, told by the rows that the code has in hand: each share's rows at days stand in order, and the row at the
 -- last place is the last of them. Assumes nothing.
-use mathlib.Core.Path.{_≡_, refl, sym, ap, _∙_}
+use mathlib.Core.Path.{_≡_, refl, sym, _∙_}
 use mathlib.Core.List.{[], _∷_}
 use Prim.Native.Nat.{ℕ, suc, _+_, _≤_, _<_}
+use native.Mathlib.Nat.{le-trans}
 use native.Mathlib.Omega.{arith}
 use lib.Dec.{T as Holds}
 use lib.ListN.{length}
@@ -12,7 +13,7 @@ use Rattle.tables.specs.declared.Row.{Row}
 use Rattle.tables.specs.declared.shares.Share.{Share}
 use Rattle.tables.specs.declared.shares.Share.the-variants.{Creep, Shrinkage}
 use Rattle.tables.specs.Tables.{row, at, atRow, onLine, along, reading, shareDays, shareReading}
-use Rattle.tables.specs.Conditions.{rowAt, Between, dayCount, Within}
+use Rattle.tables.specs.Conditions.{rowAt, dayCount, Within}
 use Rattle.tables.proofs.Rows.{lastOf}
 use Rattle.tables.proofs.Order.{ordered, to-last, on-its-line, before-last, from-last}
 
@@ -28,25 +29,31 @@ all-days : (share : Share) → length (shareDays share) ≡ dayCount
 all-days Creep = refl
 all-days Shrinkage = refl
 
--- between the first row and the seventh, and between the sixth and the last, there are six lines
-pub first-six : (share : Share) (x : ℕ) {seventh : Row} → seventh ≡ rowAt (shareDays share) 6 → x < at seventh → Within 6 share 0 x
-first-six Creep x e to = record { at-days = omega arith; from-low = omega arith; before-high = rw e at to }
-first-six Shrinkage x e to = record { at-days = omega arith; from-low = omega arith; before-high = rw e at to }
+from-zero : (share : Share) → at (rowAt (shareDays share) 0) ≡ 0
+from-zero Creep = refl
+from-zero Shrinkage = refl
 
-pub last-six : (share : Share) (x : ℕ) {seventh last : Row} → seventh ≡ rowAt (shareDays share) 6
-    → last ≡ rowAt (shareDays share) 11 → at seventh ≤ x → x < at last → Within 6 share 5 x
-last-six Creep x e l from to = record { at-days = omega arith; from-low = omega (arith, ap at e); before-high = rw l at to }
-last-six Shrinkage x e l from to = record { at-days = omega arith; from-low = omega (arith, ap at e); before-high = rw l at to }
+sixth-to-seventh : (share : Share) → at (rowAt (shareDays share) 5) ≤ at (rowAt (shareDays share) 6)
+sixth-to-seventh Creep = omega arith
+sixth-to-seventh Shrinkage = omega arith
 
 module _ (share : Share) (x : ℕ) where
+  -- between the first row and the seventh, and between the sixth and the last, there are six lines
+  pub first-six : {seventh : Row} → seventh ≡ rowAt (shareDays share) 6 → x < at seventh → Within 6 share 0 x
+  first-six e to = record { at-days = omega arith; from-low = omega (arith, from-zero share); before-high = rw e at to }
+
+  pub last-six : {seventh last : Row} → seventh ≡ rowAt (shareDays share) 6 → last ≡ rowAt (shareDays share) 11
+      → at seventh ≤ x → x < at last → Within 6 share 5 x
+  last-six e l from to =
+      record { at-days = omega arith; from-low = le-trans (sixth-to-seventh share) (rw e at from); before-high = rw l at to }
+
   -- between the rows at two neighbouring places
   pub line-read : (place next : ℕ) {low high : Row} → next ≡ suc place → next < dayCount
-      → low ≡ rowAt (shareDays share) place → high ≡ rowAt (shareDays share) next → Between T x low high
+      → low ≡ rowAt (shareDays share) place → high ≡ rowAt (shareDays share) next → at low ≤ x → x < at high
       → onLine T x low high ≡ reading T (shareDays share) x
-  line-read place next n h l e b =
+  line-read place next n h l e from to =
       let there : suc place < length (shareDays share) = omega (arith, all-days share) in
-      rw (l, e, n) (sym (on-its-line T x (shareDays share) place (in-order share) there (rw l at (b .from-low))
-      (rw (e, n) at (b .before-high))))
+      rw (l, e, n) (sym (on-its-line T x (shareDays share) place (in-order share) there (rw l at from) (rw (e, n) at to)))
 
   -- before the last row at a day the end of life does not matter
   pub days-read : (life : ℕ) {lines place : ℕ} → Within lines share place x → reading T (shareDays share) x ≡ shareReading share life x

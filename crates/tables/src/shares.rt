@@ -113,7 +113,7 @@ pub fn reading(share: Share, life: u32, x: u32) -> u64
         return within_six(share, LAST_SIX_BEGIN, x);
     }
     let end = Row(life, 100);
-    if x < life {
+    if x < end.0 {
         return on_line(T, x, last, end);
     }
     at_row(T, end)

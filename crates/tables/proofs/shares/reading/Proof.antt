@@ -41,20 +41,22 @@ on-line-requires c κs = search needs
 
 returns-3 : tie.Need-returns-3
 returns-3 c =
-    let last = c .before .before .before .before in
+    let past = c .before .before .before in
+    let last = past .before .before in
     let args = last .before .before .before .before .args in
     c .on-line .ensures
-    ∙ end-read (args .share) (args .x) (args .life) (last .row-at2 .ensures) (c .before .before .if2 .left) (c .before .if3 .taken)
+    ∙ end-read (args .share) (args .x) (args .life) (last .row-at2 .ensures) (past .if2 .left) (c .before .if3 .taken)
 
 at-row-requires : tie.Need-at-row-requires
 at-row-requires c κs = search needs
 
 returns-4 : tie.Need-returns-4
 returns-4 c =
-    let last = c .before .before .before .before in
+    let past = c .before .before .before in
+    let last = past .before .before in
     let args = last .before .before .before .before .args in
     c .at-row .ensures
-    ∙ one-read (args .share) (args .x) (args .life) (last .row-at2 .ensures) (c .before .before .if2 .left) (c .before .if3 .left)
+    ∙ one-read (args .share) (args .x) (args .life) (last .row-at2 .ensures) (past .if2 .left) (c .before .if3 .left)
 
 pub reading-spec : {M : Type 1} → statement M
 reading-spec =
