@@ -1,5 +1,5 @@
--- Each comparison tells on which line x lies, and there the walk along all rows ends. A row has the name that it has in the code; where
--- x is known to lie from the first row on and before the seventh is what the function asks for. Assumes nothing.
+-- Each comparison tells on which line x lies, and there the walk along all rows ends. That x lies from the first row on and before the
+-- seventh is what the function asks for; the rows between have the names that they have in the code. Assumes nothing.
 use mathlib.Core.Path.{_∙_}
 use Prim.Native.Nat.{_+_}
 use native.Mathlib.Omega.{arith}
