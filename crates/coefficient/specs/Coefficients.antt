@@ -1,6 +1,5 @@
 -- The promise rests on it. The three clocks and the coefficients: document 01, "Hours and logarithms", "Coefficients". Each clock has a
--- type of its own: "a reading of one never enters another's table". No reading is taken before its clock starts; a natural difference is 0
--- there.
+-- type of its own: "a reading of one never enters another's table". No reading is taken before its clock starts, where a difference is 0.
 use Prim.Native.Nat.{ℕ, _-_, max, _*_}
 use Rattle.coefficient.specs.declared.codes.Kind.{Kind}
 use Rattle.coefficient.specs.declared.clocks.MemberHours.{MemberHours}

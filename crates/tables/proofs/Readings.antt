@@ -12,65 +12,65 @@ use Rattle.ticks.specs.Ticks.{T}
 use Rattle.tables.specs.declared.Row.{Row}
 use Rattle.tables.specs.declared.shares.Share.{Share}
 use Rattle.tables.specs.declared.shares.Share.the-variants.{Creep, Shrinkage}
-use Rattle.tables.specs.Tables.{row, at, atRow, onLine, along, reading, shareDays, shareReading}
-use Rattle.tables.specs.Conditions.{rowAt, dayCount, Within}
+use Rattle.tables.specs.Tables.{row, at, atRow, onLine, along, reading, dayRows, shareReading}
+use Rattle.tables.specs.Conditions.{rowAt, dayRowCount, Within}
 use Rattle.tables.proofs.Rows.{lastOf}
 use Rattle.tables.proofs.Order.{ordered, to-last, on-its-line, before-last, from-last}
 
-in-order : (share : Share) → Holds (ordered (shareDays share))
+in-order : (share : Share) → Holds (ordered (dayRows share))
 in-order Creep = tt
 in-order Shrinkage = tt
 
-last-day : (share : Share) → rowAt (shareDays share) 11 ≡ lastOf (shareDays share)
+last-day : (share : Share) → rowAt (dayRows share) 11 ≡ lastOf (dayRows share)
 last-day Creep = refl
 last-day Shrinkage = refl
 
-all-days : (share : Share) → length (shareDays share) ≡ dayCount
+all-days : (share : Share) → length (dayRows share) ≡ dayRowCount
 all-days Creep = refl
 all-days Shrinkage = refl
 
-from-zero : (share : Share) → at (rowAt (shareDays share) 0) ≡ 0
+from-zero : (share : Share) → at (rowAt (dayRows share) 0) ≡ 0
 from-zero Creep = refl
 from-zero Shrinkage = refl
 
-sixth-to-seventh : (share : Share) → at (rowAt (shareDays share) 5) ≤ at (rowAt (shareDays share) 6)
+sixth-to-seventh : (share : Share) → at (rowAt (dayRows share) 5) ≤ at (rowAt (dayRows share) 6)
 sixth-to-seventh Creep = omega arith
 sixth-to-seventh Shrinkage = omega arith
 
 module _ (share : Share) (x : ℕ) where
   -- between the first row and the seventh, and between the sixth and the last, there are six lines
-  pub first-six : {seventh : Row} → seventh ≡ rowAt (shareDays share) 6 → x < at seventh → Within 6 share 0 x
+  pub first-six : {seventh : Row} → seventh ≡ rowAt (dayRows share) 6 → x < at seventh → Within 6 share 0 x
   first-six e to = record { at-days = omega arith; from-low = omega (arith, from-zero share); before-high = rw e at to }
 
-  pub last-six : {seventh last : Row} → seventh ≡ rowAt (shareDays share) 6 → last ≡ rowAt (shareDays share) 11
+  pub last-six : {seventh last : Row} → seventh ≡ rowAt (dayRows share) 6 → last ≡ rowAt (dayRows share) 11
       → at seventh ≤ x → x < at last → Within 6 share 5 x
   last-six e l from to =
       record { at-days = omega arith; from-low = le-trans (sixth-to-seventh share) (rw e at from); before-high = rw l at to }
 
   -- between the rows at two neighbouring places
-  pub line-read : (place next : ℕ) {low high : Row} → next ≡ suc place → next < dayCount
-      → low ≡ rowAt (shareDays share) place → high ≡ rowAt (shareDays share) next → at low ≤ x → x < at high
-      → onLine T x low high ≡ reading T (shareDays share) x
+  pub line-read : (place next : ℕ) {low high : Row} → next ≡ suc place → next < dayRowCount
+      → low ≡ rowAt (dayRows share) place → high ≡ rowAt (dayRows share) next → at low ≤ x → x < at high
+      → onLine T x low high ≡ reading T (dayRows share) x
   line-read place next n h l e from to =
-      let there : suc place < length (shareDays share) = omega (arith, all-days share) in
-      rw (l, e, n) (sym (on-its-line T x (shareDays share) place (in-order share) there (rw l at from) (rw (e, n) at to)))
+      let there : suc place < length (dayRows share) = omega (arith, all-days share) in
+      rw (l, e, n) (sym (on-its-line T x (dayRows share) place (in-order share) there (rw l at from) (rw (e, n) at to)))
 
   -- before the last row at a day the end of life does not matter
-  pub days-read : (life : ℕ) {lines place : ℕ} → Within lines share place x → reading T (shareDays share) x ≡ shareReading share life x
+  pub days-read : (life : ℕ) {lines place : ℕ} → Within lines share place x → reading T (dayRows share) x ≡ shareReading share life x
   unfolding shareReading
   days-read life {lines} {place} w =
-      let there : place + lines < length (shareDays share) = omega (arith, all-days share) in
-      let early = to-last (shareDays share) (place + lines) (in-order share) there in
-      sym (before-last T x (row life 100 ∷ []) (shareDays share) (omega (arith, w .before-high, early)))
+      let there : place + lines < length (dayRows share) = omega (arith, all-days share) in
+      let early = to-last (dayRows share) (place + lines) (in-order share) there in
+      sym (before-last T x (row life 100 ∷ []) (dayRows share) (omega (arith, w .before-high, early)))
 
-  module _ (life : ℕ) {last : Row} (l : last ≡ rowAt (shareDays share) 11) where
-    found : last ≡ lastOf (shareDays share)
+  module _ (life : ℕ) {last : Row} (l : last ≡ rowAt (dayRows share) 11) where
+    found : last ≡ lastOf (dayRows share)
     found = l ∙ last-day share
 
     -- from that row on a share goes to 1.00
     to-one : at last ≤ x → shareReading share life x ≡ along T x last (row life 100 ∷ [])
     unfolding shareReading
-    to-one from = rw found (from-last T x (row life 100 ∷ []) (shareDays share) (in-order share) (rw found at from))
+    to-one from = rw found (from-last T x (row life 100 ∷ []) (dayRows share) (in-order share) (rw found at from))
 
     pub end-read : at last ≤ x → x < life → onLine T x last (row life 100) ≡ shareReading share life x
     unfolding along

@@ -5,8 +5,9 @@ use lib.ListN.{getD}
 use Rattle.ticks.specs.Ticks.{T}
 use Rattle.tables.specs.declared.Row.{Row}
 use Rattle.tables.specs.declared.shares.Share.{Share}
-use Rattle.tables.specs.Tables.{row, at, shareDays}
+use Rattle.tables.specs.Tables.{row, at, dayRows}
 
+-- the row at a place; past the last one a row that no contract speaks of
 abbrev pub rowAt : List Row → ℕ → Row
 rowAt rows place = getD rows place (row 0 0)
 
@@ -17,11 +18,11 @@ pub record Between (unit x : ℕ) (low high : Row) : Type 0 where
   pub before-high : x < at high
 
 -- Each share has so many rows at days.
-abbrev pub dayCount : ℕ
-dayCount = 12
+abbrev pub dayRowCount : ℕ
+dayRowCount = 12
 
 -- of an x that lies within so many lines of a share, from the row at a place on
 pub record Within (lines : ℕ) (share : Share) (place x : ℕ) : Type 0 where
-  pub at-days : place + lines < dayCount
-  pub from-low : at (rowAt (shareDays share) place) ≤ x
-  pub before-high : x < at (rowAt (shareDays share) (place + lines))
+  pub at-days : place + lines < dayRowCount
+  pub from-low : at (rowAt (dayRows share) place) ≤ x
+  pub before-high : x < at (rowAt (dayRows share) (place + lines))

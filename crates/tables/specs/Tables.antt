@@ -64,6 +64,7 @@ ssfRows = inches 1 104 ∷ inches 2 96 ∷ inches 3 86 ∷ inches 4 77 ∷ inche
 abbrev pub mcfRows : List Row
 mcfRows = days 3 114 ∷ days 5 107 ∷ days 7 100 ∷ days 10 96 ∷ days 20 84 ∷ days 30 72 ∷ days 40 60 ∷ []
 
+-- the rows of a factor
 unfoldable pub rowsOf : Factor → List Row
 rowsOf Factor.Scf = scfRows
 rowsOf Factor.Ssf = ssfRows
@@ -81,24 +82,25 @@ unfolding reading rowsOf
 factorReading factor x = reading (unitOf factor) (rowsOf factor) x
 
 -- "Creep share, days 0 1 2 5 7 10 20 30 60 90 180 365: 0 .08 .15 .18 .23 .24 .30 .35 .45 .51 .61 .74"
-abbrev pub creepShareDays : List Row
-creepShareDays =
+abbrev pub creepDayRows : List Row
+creepDayRows =
     days 0 0 ∷ days 1 8 ∷ days 2 15 ∷ days 5 18 ∷ days 7 23 ∷ days 10 24 ∷ days 20 30 ∷ days 30 35 ∷ days 60 45
     ∷ days 90 51 ∷ days 180 61 ∷ days 365 74 ∷ []
 
 -- "Shrinkage share, days 0 1 3 5 7 10 20 30 60 90 180 365: 0 .08 .15 .20 .22 .27 .36 .42 .55 .62 .68 .86"
-abbrev pub shrinkageShareDays : List Row
-shrinkageShareDays =
+abbrev pub shrinkageDayRows : List Row
+shrinkageDayRows =
     days 0 0 ∷ days 1 8 ∷ days 3 15 ∷ days 5 20 ∷ days 7 22 ∷ days 10 27 ∷ days 20 36 ∷ days 30 42 ∷ days 60 55
     ∷ days 90 62 ∷ days 180 68 ∷ days 365 86 ∷ []
 
-abbrev pub shareDays : Share → List Row
-shareDays Share.Creep = creepShareDays
-shareDays Share.Shrinkage = shrinkageShareDays
+-- the rows of a share at days
+abbrev pub dayRows : Share → List Row
+dayRows Share.Creep = creepDayRows
+dayRows Share.Shrinkage = shrinkageDayRows
 
 -- "Both reach 1.00 at hour 438,000 of the member", where the clock reads `life`.
 abbrev pub shareRows : Share → ℕ → List Row
-shareRows share life = shareDays share ++ (row life 100 ∷ [])
+shareRows share life = dayRows share ++ (row life 100 ∷ [])
 
 -- a share at x, "Rounded down to 1/T"
 unfoldable pub shareReading : Share → ℕ → ℕ → ℕ

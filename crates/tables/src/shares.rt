@@ -1,9 +1,9 @@
-// The shares of creep and shrinkage, which are read for every age. A row is read where it is declared, by a `match` on its place: with
-// the places below, which are known when the core is compiled, the two numbers of a row stand in an instruction and in no memory.
+// The shares of creep and shrinkage, which are read for every age. Each row is read where it is declared, by a `match` on its place, and
+// every place that is asked for is a constant, so that the compiler works the `match` out.
 ghost use mathlib.Core.Path.{_≡_};
 ghost use Prim.Native.Nat.{_<_};
-ghost use Rattle.tables.specs.Tables.{reading, creepShareDays, shrinkageShareDays, shareDays, shareReading};
-ghost use Rattle.tables.specs.Conditions.{rowAt, dayCount, Within};
+ghost use Rattle.tables.specs.Tables.{reading, creepDayRows, shrinkageDayRows, dayRows, shareReading};
+ghost use Rattle.tables.specs.Conditions.{rowAt, dayRowCount, Within};
 ghost use Rattle.ticks.specs.Ticks.{T};
 use crate::DAY;
 use crate::Row;
@@ -16,7 +16,8 @@ pub enum Share {
     Shrinkage,
 }
 
-// The rows at days have the places 0 to 11. Of the eleven lines between them the first six end at place 6, the last six begin at 5.
+// The rows at days have the places 0 to 11. Of the eleven lines between them the first six end at place 6 and the last six begin at 5:
+// the line that both have is read with the first.
 const LAST: u32 = 11;
 
 const FIRST_SIX_END: u32 = 6;
@@ -24,8 +25,8 @@ const FIRST_SIX_END: u32 = 6;
 const LAST_SIX_BEGIN: u32 = 5;
 
 fn creep_row(place: u32) -> Row
-    requires { ⌜ place < dayCount ⌝ }
-    ensures { λ r. ⌜ r ≡ rowAt creepShareDays place ⌝ }
+    requires { ⌜ place < dayRowCount ⌝ }
+    ensures { λ r. ⌜ r ≡ rowAt creepDayRows place ⌝ }
 {
     match place {
         0 => Row(0, 0), // transfer
@@ -44,8 +45,8 @@ fn creep_row(place: u32) -> Row
 }
 
 fn shrinkage_row(place: u32) -> Row
-    requires { ⌜ place < dayCount ⌝ }
-    ensures { λ r. ⌜ r ≡ rowAt shrinkageShareDays place ⌝ }
+    requires { ⌜ place < dayRowCount ⌝ }
+    ensures { λ r. ⌜ r ≡ rowAt shrinkageDayRows place ⌝ }
 {
     match place {
         0 => Row(0, 0), // the end of curing
@@ -64,8 +65,8 @@ fn shrinkage_row(place: u32) -> Row
 }
 
 fn row_at(share: Share, place: u32) -> Row
-    requires { ⌜ place < dayCount ⌝ }
-    ensures { λ r. ⌜ r ≡ rowAt (shareDays share) place ⌝ }
+    requires { ⌜ place < dayRowCount ⌝ }
+    ensures { λ r. ⌜ r ≡ rowAt (dayRows share) place ⌝ }
 {
     match share {
         Share::Creep => creep_row(place),
@@ -76,7 +77,7 @@ fn row_at(share: Share, place: u32) -> Row
 // Within the six lines from the row at `place` on: the three before the row in their middle, or the three after it.
 fn within_six(share: Share, place: u32, x: u32) -> u64
     requires { ⌜ Within 6 share place x ⌝ }
-    ensures { λ v. ⌜ v ≡ reading T (shareDays share) x ⌝ }
+    ensures { λ v. ⌜ v ≡ reading T (dayRows share) x ⌝ }
 {
     let fourth = row_at(share, place + 3);
     if x < fourth.0 {

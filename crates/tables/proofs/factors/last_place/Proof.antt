@@ -1,4 +1,4 @@
--- Each table's last place is one less than the number of its rows. Assumes nothing.
+-- Each factor's last place is one less than the number of its rows. Assumes nothing.
 use borrow.Author.Needs.{needs}
 use Rattle.tables.specs.Tables.{rowsOf}
 use Rattle.tables.proofs.factors.last_place.Statement.{statement}

@@ -1,4 +1,4 @@
--- Each table's rows are read by its own function, whose contract is this one's in that table's case. Assumes nothing.
+-- Each factor's rows are read by its own function, whose contract is this one's in that factor's case. Assumes nothing.
 use borrow.Author.Needs.{needs}
 use Rattle.tables.specs.Tables.{rowsOf}
 use Rattle.tables.proofs.factors.row_at.Statement.{statement}
