@@ -52,24 +52,25 @@ extern "C" {
 /* What a run returns. */
 enum stratelyn_refusal {
   STRATELYN_ACCEPTED = 0,
-  STRATELYN_CODE = 1,       /* a code that is not listed; place: field */
-  STRATELYN_RANGE = 2,      /* out of range; place: field */
-  STRATELYN_HOURS = 3,      /* a rule of hours is broken; place: field */
-  STRATELYN_DUCT = 4,       /* place 1: a pretensioned member with segments; 2: an X over 1.5, more than the core takes */
-  STRATELYN_SECTION = 5,    /* too much steel for the section; place 14 */
-  STRATELYN_CREEP = 6,      /* too much creep for the section; place 17 */
-  STRATELYN_STRESS = 7,     /* under 1,000 psi after a loss, before a gain; place 0 before the ages, else the age's number */
-  STRATELYN_SHAPE = 8,      /* a wrong or missing line of a card, the place; a wrong length of a list, place 0 */
-  STRATELYN_DOUBLE = 9,     /* a double that is not finite, negative, 2^31 or more, or not whole; place: field */
-  STRATELYN_BUFFER = 10,    /* place 1: the report is too short; 2: the scratch; or the reply is under 64 bytes */
-  STRATELYN_OVERSTRESS = 11 /* above 0.80 F after a gain; place: the age's number */
+  STRATELYN_CODE = 1,        /* a code that is not listed; place: field */
+  STRATELYN_RANGE = 2,       /* out of range; place: field */
+  STRATELYN_HOURS = 3,       /* a rule of hours is broken; place: field */
+  STRATELYN_DUCT = 4,        /* place 1: a pretensioned member with segments; 2: an X over 1.5, more than the core takes */
+  STRATELYN_SECTION = 5,     /* too much steel for the section; place 14 */
+  STRATELYN_CREEP = 6,       /* too much creep for the section; place 17 */
+  STRATELYN_STRESS = 7,      /* under 1,000 psi after a loss, before a gain; place 0 before the ages, else the age's number */
+  STRATELYN_SHAPE = 8,       /* a wrong or missing line of a card, the place; a wrong length of a list, place 0 */
+  STRATELYN_DOUBLE = 9,      /* a double that is not finite, negative, 2^31 or more, or not whole; place: field */
+  STRATELYN_BUFFER = 10,     /* place 1: the report is too short; 2: the scratch; or the reply is under 64 bytes */
+  STRATELYN_OVERSTRESS = 11, /* above 0.80 F after a gain; place: the age's number */
+  STRATELYN_ANCHOR_SET = 12  /* the slip reaches further along the duct than the tendon is long; place 7 */
 };
 
 /* The numbers of a reply. On a refusal all but the place are 0. */
 enum stratelyn_reply {
   STRATELYN_PLACE = 0,
   STRATELYN_FRICTION = 1,
-  STRATELYN_SLIP = 2,
+  STRATELYN_SLIP = 2, /* the drop at the section: 0 where friction lets the slip die out before it */
   STRATELYN_DEFLECTOR = 3,
   STRATELYN_EARLY_RELAXATION = 4,
   STRATELYN_SHORTENING = 5,

@@ -2,12 +2,14 @@
 
 A case more goes to the end, so that the others keep their numbers.
 """
+from math import ceil
+
 from layout import card_of, start_of
 from paper import (
     ACCELERATED, AGE, BEND, BLANK, COLUMNS, LEAST_STRESS, LEAST_TRANSFER, LIFE, LINE_FEED, LOW_RELAXATION, MOIST, MOST_AGES,
     MOST_CREEP, MOST_CURING_IF_MOIST, MOST_KAPPA, MOST_MOMENTS, MOST_SEGMENTS, MOST_TRANSFER, MOST_X, NORMAL, NUMBER, PARABOLA,
-    POST_TENSIONED, PRETENSIONED, SEGMENT_RANGES, STRAIGHT, STRESS_RELIEVED, T, TICKS, Age, Head, Segment, field_of, friction,
-    friction_factor, most_of, run, whole_creep,
+    POST_TENSIONED, PRETENSIONED, SEGMENT_RANGES, STRAIGHT, STRESS_RELIEVED, T, TICKS, Age, Head, Segment, card_rows, drop_at_jack,
+    field_of, friction, friction_factor, friction_loss, inches, most_of, path_length, run, whole_creep,
 )
 
 MONTH, YEAR = 744, 8784
@@ -198,6 +200,10 @@ def duct():
         yield label, card(POST, [segment], curvature=curvature)
 
 
+# A member that creeps so that its U·κ can be at its edge.
+CREEPING = POST._replace(ec=2000000, volume_to_surface=5120)
+
+
 def creep_edge(base, over):
     """The largest U·κ that passes, or the one `over` above it, by area, inertia and eccentricity."""
     kappa = MOST_CREEP // whole_creep(base) + over
@@ -219,9 +225,8 @@ def section_and_creep():
     yield "κ over 2^30", card(POST, area=area - 1, steel_area=steel)
     young = dict(cure=MOIST, end_of_curing=72, transfer=72, ec=1000000, volume_to_surface=1024)
     yield "U·κ far over 2^56", card(POST, area=area, steel_area=steel, **young)
-    base = POST._replace(ec=2000000, volume_to_surface=5120)
-    yield "U·κ largest not above 2^56", card(creep_edge(base, 0))
-    yield "U·κ least above 2^56", card(creep_edge(base, 1))
+    yield "U·κ largest not above 2^56", card(creep_edge(CREEPING, 0))
+    yield "U·κ least above 2^56", card(creep_edge(CREEPING, 1))
 
 
 def stress():
@@ -349,13 +354,9 @@ def bridge_friction(path):
     return friction(BRIDGE.wobble, BRIDGE.curvature, path)
 
 
-def length_of(path):
-    return sum(segment.length for segment in path)
-
-
 def bridge(path):
     label = "X %d: a bridge's tendon, %d segments" % (bridge_friction(path), len(path))
-    return label, card(BRIDGE, path, length=length_of(path))
+    return label, card(BRIDGE, path, length=path_length(path))
 
 
 def bridge_path_of(x, path):
@@ -365,7 +366,7 @@ def bridge_path_of(x, path):
         bent = path + [Segment(BEND, 0, angle)]
         straight = shortest_straight(BRIDGE.wobble, x - bridge_friction(bent))
         whole = bent + [straight]
-        if straight.length > 0 and length_of(whole) <= most_of("length") and bridge_friction(whole) == x:
+        if straight.length > 0 and path_length(whole) <= most_of("length") and bridge_friction(whole) == x:
             return whole
     raise SystemExit("no path has X %d" % x)
 
@@ -401,8 +402,160 @@ def long_ducts():
     yield "stress under %d psi along that path, not at its end" % least, dips
 
 
+# A tendon whose wedges slip, so long that an affected length passes it only where a card says so.
+ANCHORED = POST._replace(slip=field_of("slip").blank, length=most_of("length"))
+
+
+def bend_of(x):
+    """A curvature and a bend whose X is this."""
+    _, _, widest = SEGMENT_RANGES[BEND]
+    for angle in range(1, widest + 1):
+        curvature, segment = -(-x * TICKS * 10**6 // (angle * T)), Segment(BEND, 0, angle)
+        if curvature <= most_of("curvature") and friction(0, curvature, [segment]) == x:
+            return curvature, segment
+    raise SystemExit("no bend has X %d" % x)
+
+
+def anchored(base, x, length):
+    """A head and a path: its X comes of a bend alone, its length of a straight alone."""
+    curvature, bend = bend_of(x)
+    return base._replace(curvature=curvature), [bend, Segment(STRAIGHT, length, 0)]
+
+
+def loss_by_friction(head, path):
+    """d."""
+    return friction_loss(head.jacking_stress * TICKS, friction(head.wobble, head.curvature, path))
+
+
+def drop_of(head, path):
+    """Z."""
+    return drop_at_jack(head, loss_by_friction(head, path), inches(path_length(path)))
+
+
+def slips_of(head, path, drop):
+    """Each slip and the Es, unrounded, that meet a drop at the jack exactly."""
+    least, most = field_of("es").range(head)
+    d, length = loss_by_friction(head, path), inches(path_length(path))
+    for slip in range(1, most_of("slip") + 1):
+        es = drop**2 * length / (4 * d * slip)
+        if least < es <= most:
+            yield slip, es
+
+
+def less_es(head):
+    """The head with an Es of a psi less."""
+    return head._replace(es=head.es - 1)
+
+
+def reaching(head, path, drop):
+    """The head with a slip and an Es that reach a drop at the jack; with an Es of a psi less it is a tick less."""
+    for slip, es in slips_of(head, path, drop):
+        found = head._replace(slip=slip, es=ceil(es))
+        if (drop_of(less_es(found), path), drop_of(found, path)) == (drop - 1, drop):
+            return found
+    raise SystemExit("no slip has a drop at the jack of %d" % drop)
+
+
+def accepted(text):
+    return len(card_rows(text)) > 1
+
+
+def anchored_girder():
+    girder = BRIDGE._replace(slip=ANCHORED.slip, length=path_length(GIRDER))
+    yield "slip that reaches the end of a girder's first parabola", card(girder, GIRDER[:1])
+    yield "slip that dies out before the girder's far end", card(girder, GIRDER)
+    yield "slip 0 along the girder, with a tendon length under that of the path", card(girder, GIRDER, slip=0, length=TICKS)
+
+
+def old_slips():
+    """A path without friction or without length, where the tendon length counts."""
+    curvature, bend = bend_of(T // 8)
+    straight = Segment(STRAIGHT, 2 * POST.length, 0)
+    yield "slip along a straight without friction", card(POST, [straight], slip=ANCHORED.slip)
+    yield "slip along bends alone", card(POST, [bend, bend], slip=ANCHORED.slip, curvature=curvature)
+
+
+def whole_root():
+    """A drop at the jack that is met exactly. 1024·d·Es·slip is 3 times 2^64 there, and 0 where 64 bits hold it."""
+    jacked, d, drop = 2**27, 2**21, 2**25
+    x = next(x for x in range(d * T // jacked, MOST_X) if friction_loss(jacked, x) == d)
+    base, path = anchored(ANCHORED._replace(jacking_stress=jacked // TICKS), x, 2**14)
+    slip, es = next((slip, int(es)) for slip, es in slips_of(base, path, drop) if es.denominator == 1)
+    exact = base._replace(slip=slip, es=es)
+    for head, label in ((exact, "Es %d: drop at the jack %d, met exactly"), (less_es(exact), "Es %d: drop at the jack %d")):
+        yield label % (head.es, drop_of(head, path)), card(head, path)
+
+
+def of_drop(head, path):
+    return "path length %d: drop at the jack %d" % (path_length(path), drop_of(head, path)), card(head, path)
+
+
+def path_lengths():
+    """A path of a tick, by itself and with about the largest product of d, Es and slip; with that the fewest feet; the longest path."""
+    base = ANCHORED._replace(ultimate_strength=most_of("ultimate_strength"), es=most_of("es"), **UNLOADED)
+    _, jacked = field_of("jacking_stress").range(base)
+    strong = base._replace(jacking_stress=jacked)
+    yield of_drop(*anchored(strong._replace(slip=1), T // 256, 1))
+    of_length = lambda length: anchored(strong._replace(slip=most_of("slip")), MOST_X, length)
+    # With such a product a path of a tick leaves no stress. Where 32 bits hold the drop, this slip dies out.
+    head, path = of_length(1)
+    dies_out = lambda slip: drop_of(head._replace(slip=slip), path) % 2**32 <= 2 * loss_by_friction(head, path)
+    yield of_drop(head._replace(slip=max(filter(dies_out, range(head.slip + 1)))), path)
+    feet = next(feet for feet in range(1, most_of("length") // TICKS) if accepted(card(*of_length(feet * TICKS))))
+    yield of_drop(*of_length(feet * TICKS))
+    _, longest_straight, _ = SEGMENT_RANGES[STRAIGHT]
+    path = MOST_SEGMENTS * [Segment(STRAIGHT, longest_straight, 0)]
+    wobble = max(wobble for wobble in range(most_of("wobble") + 1) if friction(wobble, 0, path) <= MOST_X)
+    yield of_drop(ANCHORED._replace(wobble=wobble), path)
+
+
+def tick_of_friction():
+    """X 1, of a jacking stress of T ticks, in the longest tendon; a straight shorter by a tick has X 0."""
+    straight = shortest_straight(1, 1)
+    shorter = straight._replace(length=straight.length - 1)
+    base = ANCHORED._replace(jacking_stress=T // TICKS, wobble=1, area=most_of("area"), steel_area=1)
+    of_slip = lambda segment, slip: card(base, [segment], slip=slip)
+    over = next(slip for slip in range(1, most_of("slip") + 1) if not accepted(of_slip(straight, slip)))
+    for segment, slip in ((straight, over - 1), (straight, over), (shorter, over)):
+        label = "friction %d: straight, length %d, slip %d" % (loss_by_friction(base, [segment]), segment.length, slip)
+        yield label, of_slip(segment, slip)
+
+
+def affected_lengths():
+    """Affected lengths of the path and of one and a half of it, and those of a drop at the jack of a tick more."""
+    base, path = anchored(ANCHORED, T // 16, 100 * TICKS)
+    d, length = loss_by_friction(base, path), path_length(path)
+    over = reaching(base, path, 2 * d + 1)
+    at = less_es(over)
+    yield "drop at the section 0, affected length that of path and tendon", card(at, path, length=length)
+    yield "drop at the section 0, tendon length a tick under the affected length", card(at, path, length=length - 1)
+    yield "drop at the section 1, affected length over that of path and tendon", card(over, path, length=length)
+    yield "drop at the section 1, tendon length a tick over that of the path", card(over, path, length=length + 1)
+    over = reaching(base, path, 3 * d + 1)
+    at, length = less_es(over), 3 * length // 2
+    yield "affected length %d, that of the tendon" % length, card(at, path, length=length)
+    yield "affected length %d, tendon length a tick under it" % length, card(at, path, length=length - 1)
+    yield "affected length over %d by less than a tick, tendon length %d" % (length, length), card(over, path, length=length)
+
+
+def refusals_at_slip():
+    least, x, length = LEAST_STRESS // TICKS, T // 8, 10 * TICKS
+    enough, too_long = least_jacking_stress(x), "affected length over that of the tendon"
+    short, path = anchored(ANCHORED._replace(length=length), x, length)
+    yield "stress under %d psi by friction, before an %s" % (least, too_long), card(short, path, jacking_stress=enough - 1)
+    yield "%s, before a stress under %d psi by slip" % (too_long, least), card(short, path, jacking_stress=enough)
+    creeping = creep_edge(CREEPING, 1)._replace(slip=short.slip, length=short.length, curvature=short.curvature)
+    yield "U·κ least above 2^56, before an %s" % too_long, card(creeping, path)
+    base, path = anchored(ANCHORED._replace(jacking_stress=30000, **UNLOADED), x, length)
+    all_but_least = base.jacking_stress * TICKS + loss_by_friction(base, path) - LEAST_STRESS
+    under = reaching(base, path, all_but_least + 1)
+    yield "stress under %d psi by slip along a path, by a tick" % least, card(under, path)
+    yield "%d psi left by slip along a path, not by the first age" % least, card(less_es(under), path)
+
+
 PARTS = (
     ranges, counts, codes, segments, moments, hours, duct, section_and_creep, stress, long_cards, shape, gains, blank_slips, long_ducts,
+    anchored_girder, old_slips, whole_root, path_lengths, tick_of_friction, affected_lengths, refusals_at_slip,
 )
 
 

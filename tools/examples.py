@@ -2,8 +2,9 @@
 answers.
 """
 import re
-from math import exp
+from math import exp, sqrt
 from pathlib import Path
+from typing import NamedTuple
 
 import paper
 from paper import ACCELERATED, DAY, LIGHTWEIGHT, MOIST, NORMAL, POST_TENSIONED, PRETENSIONED
@@ -14,7 +15,8 @@ DOCUMENT = (ROOT / "docs" / "EXAMPLES.md").read_text()
 
 CARDS = (
     "double_tee double_tee_fpy_230 double_tee_after_transfer slab slab_as_printed slab_cured_seven_days slab_shrinkage "
-    "slab_fpy_235 slab_friction box_girder_b box_girder_c box_girder_d box_girder_e box_girder_f box_girder_g"
+    "slab_fpy_235 slab_friction box_girder_b box_girder_c box_girder_d box_girder_e box_girder_f box_girder_g "
+    "box_girder_seated_b box_girder_seated_c simple_span_b simple_span_c"
 ).split()
 
 # The line of an answer before the ages; the ages' lines follow, numbered from 1.
@@ -58,6 +60,31 @@ SLAB = [
     ("creep, stage 3", "creep", [3], "slab_as_printed", 3),
     ("shrinkage, stage 3", "shrinkage", [3], "slab_shrinkage", 3),
     ("last stress", "stress", [3], "slab_as_printed", 3),
+]
+
+# The rows of the tables of document 002's anchor sets: the quantity, its card, and its name in `Seating`.
+SEATED_BOX_GIRDER = [
+    ("friction to C", "box_girder_seated_c", "friction"),
+    ("change at the jack", "box_girder_seated_c", "drop_at_jack"),
+    ("affected length", "box_girder_seated_c", "affected_length"),
+    ("stress at the jack after seating", "box_girder_seated_c", "stress_at_jack"),
+    ("drop at C", "box_girder_seated_c", "drop"),
+    ("stress at C after seating", "box_girder_seated_c", "stress"),
+    ("friction to B", "box_girder_seated_b", "friction"),
+    ("change at the jack, from B", "box_girder_seated_b", "drop_at_jack"),
+    ("affected length, from B", "box_girder_seated_b", "affected_length"),
+    ("drop at B", "box_girder_seated_b", "drop"),
+    ("stress at B after seating", "box_girder_seated_b", "stress"),
+    ("the same, on the line to C", "box_girder_seated_b", "stress"),
+]
+SIMPLE_SPAN = [
+    ("stress at the dead end before seating", "simple_span_c", "stress_before"),
+    ("friction to the dead end", "simple_span_c", "friction"),
+    ("change at the jack", "simple_span_c", "drop_at_jack"),
+    ("affected length", "simple_span_c", "affected_length"),
+    ("stress at the jack after seating", "simple_span_c", "stress_at_jack"),
+    ("drop at the dead end", "simple_span_c", "drop"),
+    ("stress at mid-span after seating", "simple_span_b", "stress"),
 ]
 
 # How far X and the stress after friction, in ksi, may lie from document 002's: its X has four places, its factor three, its stress one.
@@ -170,6 +197,70 @@ def compare_friction(checks, answers):
     checks.hold(abs(ours - number(document)) <= number(tolerance), "the slab's friction: tolerance")
 
 
+class Seating(NamedTuple):
+    """An anchor set: stresses in ksi, the affected length in feet."""
+
+    friction: float
+    drop_at_jack: float
+    affected_length: float
+    drop: float
+    stress_at_jack: float
+    stress_before: float
+    stress: float
+
+
+def seating(answers, name):
+    """The anchor set of a card. An answer has friction and drop at the section alone: the drop at the jack is worked out from the card."""
+    head, segments, _ = paper.read_card(card_bytes(name))
+    friction, drop = answers[name][BEFORE].friction, answers[name][BEFORE].slip
+    path = paper.inches(paper.path_length(segments))
+    drop_at_jack = paper.drop_at_jack(head, friction, path)
+    jacked = head.jacking_stress * paper.TICKS
+    ksi = lambda ticks: ticks / paper.TICKS / 1000
+    return Seating(
+        friction=ksi(friction),
+        drop_at_jack=ksi(drop_at_jack),
+        affected_length=float(drop_at_jack * path / (2 * friction) / paper.FOOT),
+        drop=ksi(drop),
+        stress_at_jack=ksi(jacked - drop_at_jack),
+        stress_before=ksi(jacked - friction),
+        stress=ksi(jacked - friction - drop),
+    )
+
+
+def box_girder_at_b():
+    """What document 002's example 2 does not print: by its formulas from its stress at B, rounded as it rounds them at C; and, on its line
+    to C, B after seating."""
+    jacked, stress, feet, es, slip = 202.5, 197.6, 64, 28000, 0.375
+    friction = jacked - stress
+    affected_length = round(sqrt(es * slip * feet / (friction * paper.FOOT)), 1)
+    change_at_jack = round(2 * friction * affected_length / feet, 2)
+    drop = change_at_jack - 2 * friction
+    jack_after_seating, change_to_c, affected_to_c = 186.53, 15.97, 109.5
+    return {
+        "friction to B": friction,
+        "change at the jack, from B": change_at_jack,
+        "affected length, from B": affected_length,
+        "drop at B": drop,
+        "stress at B after seating": stress - drop,
+        "the same, on the line to C": jack_after_seating + change_to_c / 2 * feet / affected_to_c,
+    }
+
+
+def compare_seating(checks, answers, heading, quantities, worked_out):
+    """A table of an anchor set: the document's number, printed or worked out from those that are, the core's, and the tolerance."""
+    rows = table(heading)
+    checks.hold([row[0] for row in rows] == [quantity for quantity, _, _ in quantities], "the quantities under " + heading)
+    for (quantity, document_cell, core_cell, differs_cell, tolerance), (_, card, name) in zip(rows, quantities):
+        where = "%s, %s: " % (heading, quantity)
+        document, core = number(document_cell), getattr(seating(answers, card), name)
+        if quantity in worked_out:
+            checks.hold(says(document_cell, worked_out[quantity]), where + "by the document %f" % worked_out[quantity])
+        checks.hold(says(core_cell, core), where + "%f" % core)
+        checks.hold(says(differs_cell, core - document), where + "differs by %f" % (core - document))
+        checks.hold(abs(core - document) <= sum(map(number, tolerance.split("+"))), where + "tolerance")
+
+
 def answers_of_cards():
     return {name: paper.card_rows(card_bytes(name)) for name in CARDS}
 
@@ -185,3 +276,5 @@ def compare_all(checks, answers):
     compare(checks, answers, "Document 001, design example 1", "double_tee", DOUBLE_TEE)
     compare(checks, answers, "Document 001, design example 3", "slab", SLAB)
     compare_friction(checks, answers)
+    compare_seating(checks, answers, "Document 002, example 2", SEATED_BOX_GIRDER, box_girder_at_b())
+    compare_seating(checks, answers, "Document 002, example 3", SIMPLE_SPAN, {})

@@ -9,12 +9,13 @@ from collections import namedtuple
 from enum import IntEnum
 from fractions import Fraction
 from itertools import islice
-from math import floor, isfinite
+from math import floor, isfinite, isqrt
 from typing import NamedTuple
 
 T = 1 << 24
 TICKS = 1024
 DAY = 24
+FOOT = 12
 LIFE = 438000
 
 SCF = [(1, 105), (2, 96), (3, 87), (4, 77), (5, 68)]
@@ -178,6 +179,7 @@ class Refusal(IntEnum):
     DOUBLE = 9
     BUFFER = 10
     OVERSTRESS = 11
+    ANCHOR_SET = 12
 
 
 ACCEPTED = (0, 0)
@@ -374,6 +376,38 @@ def friction_factor(x):
     return h
 
 
+def friction_loss(stress, x):
+    """d: what friction takes of the jacking stress, in ticks of psi."""
+    return stress - stress * friction_factor(x) // T
+
+
+def path_length(segments):
+    """In ticks of foot; a bend has none."""
+    return sum(segment.length for segment in segments)
+
+
+def inches(length):
+    """A length in ticks of foot, unrounded."""
+    return Fraction(FOOT * length, TICKS)
+
+
+def drop_at_jack(head, d, path):
+    """Z of document 02's W5, of a path in inches: the largest whole number of ticks with Z²·P at most 4·d·Es·slip."""
+    es, slip = head.es * TICKS, Fraction(head.slip, TICKS)
+    return isqrt(floor(4 * d * es * slip / path))
+
+
+def slip_loss(head, d, segments):
+    """The drop at the section, by document 02's W5; without friction or without a path length document 01's step 2 stays."""
+    path = inches(path_length(segments))
+    if d == 0 or path == 0:
+        return head.es * head.slip * TICKS // (FOOT * head.length)
+    drop = drop_at_jack(head, d, path)
+    affected_length = drop * path / (2 * d)
+    check(affected_length <= inches(head.length), Refusal.ANCHOR_SET, NUMBER["length"])
+    return max(0, drop - 2 * d)
+
+
 def run(head, segments, ages, report_room=MOST_REPORT_ROOM, scratch_room=MOST_SCRATCH_ROOM):
     """The losses and the stress before the ages, and each age's line; rooms are in numbers."""
     check_codes(head, segments)
@@ -411,10 +445,11 @@ def run(head, segments, ages, report_room=MOST_REPORT_ROOM, scratch_room=MOST_SC
 
     start, moments = readings(head.transfer), head.own_weight_moment
     _, _, early_logs = start
-    stress, losses = head.jacking_stress * TICKS, []
+    jacked = stress = head.jacking_stress * TICKS
+    losses = []
     for loss in (
-        lambda stress: stress - stress * friction_factor(x) // T,
-        lambda stress: head.es * head.slip * TICKS // (12 * head.length),
+        lambda stress: friction_loss(stress, x),
+        lambda stress: slip_loss(head, jacked - stress, segments),
         lambda stress: head.deflector_loss * TICKS,
         lambda stress: relax(stress, early_logs) if head.kind == PRETENSIONED else 0,
         lambda stress: head.es * concrete(stress, moments) // (head.eci + head.es * kappa // 2**32),

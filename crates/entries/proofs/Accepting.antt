@@ -11,14 +11,15 @@ use Rattle.coefficient.specs.declared.codes.Concrete.{Concrete}
 use Rattle.coefficient.proofs.Laws.{ucr-range, scf-range, mcf-range, ush-range, ssf-range}
 use Rattle.fields.specs.Quantities.{headFields, perSegment, perAge, Quantities, agesFrom, quantitiesOf}
 use Rattle.fields.specs.Outcomes.{Gives}
-use Rattle.fields.specs.Limits.{mostAges}
+use Rattle.fields.specs.Limits.{mostSegments, mostAges}
 use Rattle.fields.specs.Sizes.{mostFields}
-use Rattle.fields.proofs.Laws.{ages-length}
+use Rattle.fields.proofs.Laws.{segments-length, ages-length}
 use Rattle.checks.specs.Readable.{Readable}
 use Rattle.member.specs.declared.Member.{Member}
 use Rattle.member.specs.Constants.{wholeCreep, wholeShrinkage}
 use Rattle.member.specs.Member.{memberOf, checkedOf}
 use Rattle.member.specs.Facts.{Facts}
+use Rattle.member.proofs.Bounds.{path-most}
 use Rattle.member.proofs.Laws.{accepted}
 use Rattle.formulas.specs.Conditions.{creepLimit, shrinkageLimit}
 use Rattle.stages.specs.Conditions.{Bounded}
@@ -40,9 +41,10 @@ shrinkage-fits concrete ec volumeToSurface =
     let most = mul-le-mul (ush-range concrete ec .1) (ssf-range volumeToSurface .1) in
     omega arith
 
-bounded : (q : Quantities) (report scratch : ℕ) → length (q .ages) ≤ mostAges → Facts q report scratch → Bounded (memberOf q)
+bounded : (q : Quantities) (report scratch : ℕ) → length (q .path) ≤ mostSegments → length (q .ages) ≤ mostAges
+    → Facts q report scratch → Bounded (memberOf q)
 unfolding memberOf
-bounded q report scratch few facts =
+bounded q report scratch few-segments few-ages facts =
     let head = facts .head in
     let section = head .section in
     record {
@@ -63,10 +65,11 @@ bounded q report scratch few facts =
       eccentricity-fits = omega arith;
       own-weight-fits = head .own-weight-most;
       friction-most = facts .friction-most;
+      path-fits = omega (arith, path-most (facts .segments-fit));
       kappa-fits = facts .kappa-most;
       creep-fits = creep-fits _ _ _ _ _;
       shrinkage-fits = shrinkage-fits _ _ _;
-      ages-fit = few;
+      ages-fit = few-ages;
     }
 
 module _ (segments ages : ℕ) (fields report scratch : List ℕ) (m : Member)
@@ -88,12 +91,13 @@ module _ (segments ages : ℕ) (fields report scratch : List ℕ) (m : Member)
       let known = accepted q (length report) (length scratch) checked in
       let facts = known .facts in
       let count = ages-length ages (drop (headFields + perSegment * segments) fields) in
-      let few : length (q .ages) ≤ mostAges = rw count (readable .ages-most) in
+      let few-ages : length (q .ages) ≤ mostAges = rw count (readable .ages-most) in
+      let few-segments : length (q .path) ≤ mostSegments = rw segments-length (readable .segments-most) in
       let long : perAge * length (q .ages) ≤ length part = rw (count, part-is, length-drop) (omega arith) in
       let same : agesFrom (length (q .ages)) part ≡ q .ages = rw (count, part-is) in
       rw (known .is) (record {
         ages-fit = record {
-          bounded = bounded q (length report) (length scratch) few facts;
+          bounded = bounded q (length report) (length scratch) few-segments few-ages facts;
           listed = long;
           rise = rw same (facts .ages-rise);
           moments-fit = rw same (facts .moments-fit);

@@ -7,7 +7,7 @@ use native.Mathlib.Omega.{arith}
 use lib.Dec.{eqb}
 use Rattle.fields.specs.declared.refusal.Refusal.{Refusal}
 use Rattle.fields.specs.declared.refusal.Refusal.the-variants.{Shape, Doubles, Codes, Ranges, Hours, Duct, Buffers}
-use Rattle.fields.specs.declared.refusal.Refusal.the-variants.{Section, Creep, Stress, Overstress}
+use Rattle.fields.specs.declared.refusal.Refusal.the-variants.{Section, Creep, AnchorSet, Stress, Overstress}
 use Rattle.fields.specs.Outcomes.{OrRefusal}
 use Rattle.fields.specs.Refusals.{number, place}
 use Rattle.stages.specs.Run.{Report}
@@ -25,6 +25,7 @@ refusal-number (Duct check) = omega arith
 refusal-number (Buffers buffer) = omega arith
 refusal-number Section = omega arith
 refusal-number Creep = omega arith
+refusal-number AnchorSet = omega arith
 refusal-number (Stress age) = omega arith
 refusal-number (Overstress age) = omega arith
 
@@ -39,7 +40,8 @@ refusalBy number place =
     (cond (eqb number 10) (Buffers place)
     (cond (eqb number 5) Section
     (cond (eqb number 6) Creep
-    (cond (eqb number 7) (Stress place) (Overstress place))))))))))
+    (cond (eqb number 12) AnchorSet
+    (cond (eqb number 7) (Stress place) (Overstress place)))))))))))
 
 found : (refusal : Refusal) → refusalBy (number refusal) (place refusal) ≡ refusal
 unfolding refusalBy
@@ -52,6 +54,7 @@ found (Duct check) = refl
 found (Buffers buffer) = refl
 found Section = refl
 found Creep = refl
+found AnchorSet = refl
 found (Stress age) = refl
 found (Overstress age) = refl
 

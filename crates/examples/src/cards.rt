@@ -46,8 +46,22 @@ fn run_box_girder() {
     run_card(b"box_girder_g.card");
 }
 
+// Document 002, example 2: the same tendon with its anchor set, to B, which the set passes, and to C, before which it dies out.
+fn run_seated_box_girder() {
+    run_card(b"box_girder_seated_b.card");
+    run_card(b"box_girder_seated_c.card");
+}
+
+// Document 002, example 3: to mid-span, and to the dead end.
+fn run_simple_span() {
+    run_card(b"simple_span_b.card");
+    run_card(b"simple_span_c.card");
+}
+
 pub(crate) fn run_cards() {
     run_double_tee();
     run_slab();
     run_box_girder();
+    run_seated_box_girder();
+    run_simple_span();
 }

@@ -15,6 +15,7 @@ number (Refusal.Duct place) = 4
 number (Refusal.Buffers place) = 10
 number Refusal.Section = 5
 number Refusal.Creep = 6
+number Refusal.AnchorSet = 12
 number (Refusal.Stress age) = 7
 number (Refusal.Overstress age) = 11
 
@@ -28,6 +29,7 @@ place (Refusal.Duct p) = p
 place (Refusal.Buffers p) = p
 place Refusal.Section = fieldNumber .area
 place Refusal.Creep = fieldNumber .steelArea
+place Refusal.AnchorSet = fieldNumber .tendonLength
 place (Refusal.Stress age) = age
 place (Refusal.Overstress age) = age
 

@@ -3,13 +3,15 @@ ghost use mathlib.Core.Path.{_≡_};
 ghost use Rattle.fields.specs.Refusals.{number, place};
 use crate::places;
 
-// The fields that the rows "section" and "creep" give as their places.
+// The fields that the rows "section" and "creep" and the slip of an anchor give as their places.
 const AREA_FIELD: u64 = (places::AREA + 1) as u64;
 
 const STEEL_AREA_FIELD: u64 = (places::STEEL_AREA + 1) as u64;
 
-// A case for each row of document 01's table, with its place where that varies; and for 11 of document 02, the stress above 0.80 F
-// after a gain.
+const TENDON_LENGTH_FIELD: u64 = (places::TENDON_LENGTH + 1) as u64;
+
+// A case for each row of document 01's table, with its place where that varies; and of document 02, for 12, a slip that reaches beyond
+// the tendon's length, and for 11, the stress above 0.80 F after a gain.
 pub enum Refusal {
     Shape(u64),
     Doubles(u64),
@@ -20,6 +22,7 @@ pub enum Refusal {
     Buffers(u64),
     Section,
     Creep,
+    AnchorSet,
     Stress(u64),
     Overstress(u64),
 }
@@ -49,6 +52,7 @@ pub fn number_of(refusal: Refusal) -> u64
         Refusal::Buffers(_) => 10,
         Refusal::Section => 5,
         Refusal::Creep => 6,
+        Refusal::AnchorSet => 12,
         Refusal::Stress(_) => 7,
         Refusal::Overstress(_) => 11,
     }
@@ -67,6 +71,7 @@ pub fn place_of(refusal: Refusal) -> u64
         Refusal::Buffers(buffer) => buffer,
         Refusal::Section => AREA_FIELD,
         Refusal::Creep => STEEL_AREA_FIELD,
+        Refusal::AnchorSet => TENDON_LENGTH_FIELD,
         Refusal::Stress(age) => age,
         Refusal::Overstress(age) => age,
     }

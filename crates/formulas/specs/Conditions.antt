@@ -1,6 +1,6 @@
 -- It serves the code alone, and every accepted member has it. What the code's arithmetic asks of the numbers of each step, so that no
 -- product wraps: the powers of two above document 01's ranges.
-use Prim.Native.Nat.{ℕ, _^_, _≤_, _<_}
+use Prim.Native.Nat.{ℕ, _+_, _*_, _/_, _^_, _≤_, _<_}
 use Rattle.ticks.specs.Ticks.{T}
 use Rattle.fields.specs.Limits.{strengths, range, mostFriction}
 
@@ -15,6 +15,10 @@ slipLimit = 2 ^ 12
 
 abbrev pub lengthLimit : ℕ
 lengthLimit = 2 ^ 22
+
+-- above the length of every path
+abbrev pub pathLimit : ℕ
+pathLimit = 2 ^ 28
 
 abbrev pub deflectorLimit : ℕ
 deflectorLimit = 2 ^ 15
@@ -71,11 +75,36 @@ shrinkageLimit = 2 ^ 26
 abbrev pub mostGain : ℕ
 mostGain = 2 ^ 54
 
+-- ---- what a product by a divisor asks
+
+-- above every number of the code
+abbrev pub wordLimit : ℕ
+wordLimit = 2 ^ 64
+
+pub record QuotientFits (f x divisor : ℕ) : Type 0 where
+  pub some-divisor : 1 ≤ divisor
+  pub rest-fits : f * divisor < wordLimit
+  pub whole-fits : f * (x / divisor + 1) < wordLimit
+
 -- ---- what each step asks
 
 pub record FrictionFits (stress friction : ℕ) : Type 0 where
   pub stress-fits : stress < stressLimit
   pub friction-most : friction ≤ mostFriction
+
+-- of the drop at the jack, where slip dies out along the path
+pub record DropFits (d es slip pathLength : ℕ) : Type 0 where
+  pub d-fits : d < stressLimit
+  pub es-fits : es < esLimit
+  pub slip-fits : slip < slipLimit
+  pub some-path : 1 ≤ pathLength
+  pub path-fits : pathLength < pathLimit
+
+-- of the affected length
+pub record AffectedFits (d pathLength length : ℕ) : Type 0 where
+  pub d-fits : d < stressLimit
+  pub some-path : 1 ≤ pathLength
+  pub length-fits : length < lengthLimit
 
 pub record SlipFits (es slip length : ℕ) : Type 0 where
   pub es-fits : es < esLimit

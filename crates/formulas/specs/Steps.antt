@@ -1,7 +1,11 @@
--- The promise rests on it. What each loss is: document 01, "Steps", with friction by document 02, W3; and the gain of document 02, W1.
--- Stresses are in ticks, "Every division rounds down".
-use Prim.Native.Nat.{ℕ, _+_, _-_, _*_, _/_, _^_, max}
+-- The promise rests on it. What each loss is: document 01, "Steps", with friction and slip by document 02, W3 and W5; and the gain of
+-- document 02, W1. Stresses are in ticks, "Every division rounds down".
+use Prim.Native.Nat.{ℕ, suc, _+_, _-_, _*_, _/_, _^_, max}
+use mathlib.Core.Path.{_≡_}
+use mathlib.Core.Bool.{Bool, true, false, _&&_}
+use lib.Dec.{leb, ltb}
 use Rattle.ticks.specs.Ticks.{ticksPerUnit, T}
+use Rattle.logarithm.specs.Largest.{largestUpTo}
 use Rattle.coefficient.specs.declared.codes.Steel.{Steel}
 use Rattle.exponential.specs.Factor.{factor}
 
@@ -13,8 +17,36 @@ stressLeft stress friction = stress * factor friction / T
 abbrev pub frictionLoss : ℕ → ℕ → ℕ
 frictionLoss stress friction = stress - stressLeft stress friction
 
--- "2. Slip Es·slip·1024/(12·length)"
-abbrev pub slipLoss : ℕ → ℕ → ℕ → ℕ
+-- "2. Slip", by document 02, W5: "spreads the wedge slip only as far as friction lets it", where neither "friction loss d at the
+-- section" nor "path length P" is 0
+abbrev pub diesOut : (d pathLength : ℕ) → Bool
+diesOut d pathLength = ltb 0 d && ltb 0 pathLength
+
+-- "Z²·P at most 4·d·Es·slip; Z, d and Es are in ticks of psi, the slip in inches". P, 12 inches for each foot of the path, and the slip
+-- are both in ticks of inch here, so that each side is 1,024 times the paper's.
+abbrev pub spreads : (d es slip pathLength z : ℕ) → Bool
+spreads d es slip pathLength z = leb (z * z * (12 * pathLength)) (4 * d * (es * ticksPerUnit) * slip)
+
+-- "let Z be the largest whole number" of these, said by its two squares: it is one, and the next is not. It is the drop at the jack.
+pub record IsDropAtJack (d es slip pathLength z : ℕ) : Type 0 where
+  pub spreads-so : spreads d es slip pathLength z ≡ true
+  pub next-does-not : spreads d es slip pathLength (suc z) ≡ false
+
+-- Z as a number: none of these is larger than the right side
+unfoldable pub dropAtJack : (d es slip pathLength : ℕ) → ℕ
+unfolding largestUpTo
+dropAtJack d es slip pathLength = largestUpTo (4 * d * (es * ticksPerUnit) * slip) (spreads d es slip pathLength)
+
+-- "the affected length Z·P/(2d) passes the tendon length, both unrounded"
+abbrev pub passesTendon : (z d pathLength length : ℕ) → Bool
+passesTendon z d pathLength length = ltb (2 * d * length) (z * pathLength)
+
+-- "The drop at the section is Z − 2d, or 0 where that is negative", as a natural difference is
+abbrev pub dropAtSection : (z d : ℕ) → ℕ
+dropAtSection z d = z - 2 * d
+
+-- "Where d or P is 0 the old rule stays": document 01's "Es·slip·1024/(12·length)", over the tendon
+abbrev pub slipLoss : (es slip length : ℕ) → ℕ
 slipLoss es slip length = es * slip * ticksPerUnit / (12 * length)
 
 -- "Then deflector loss, whole psi."

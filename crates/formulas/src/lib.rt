@@ -7,6 +7,10 @@ ghost use Rattle.formulas.specs.Steps.{momentGain};
 ghost use Rattle.formulas.specs.Conditions.{strengthLimit, FrictionFits, SlipFits, DeflectorFits, RelaxationFits, FactorFits};
 ghost use Rattle.formulas.specs.Conditions.{MomentsFit, ConcreteFits, ShorteningFits, CreepFits, ShrinkageFits};
 ghost use Rattle.formulas.specs.Conditions.{GainFits};
+
+pub mod anchor;
+mod wide;
+
 use coefficient::codes::Steel;
 use ticks::T;
 use ticks::TICKS_PER_UNIT;
@@ -14,7 +18,7 @@ use ticks::TICKS_PER_UNIT;
 // 2^32: what κ is in parts of.
 pub const KAPPA_UNIT: u64 = 4_294_967_296;
 
-const INCHES_TO_A_FOOT: u64 = 12;
+pub(crate) const INCHES_TO_A_FOOT: u64 = 12;
 
 // Y: 0.85 F and 0.90 F.
 const STRESS_RELIEVED_YIELD: u64 = 85;
@@ -138,10 +142,10 @@ pub fn shrinkage_loss(whole_shrinkage: u64, share: u64) -> u64
     whole_shrinkage * share / T
 }
 
-// Es·rise/Ec. The product may need more than 64 bits, so the whole Ec in the rise are taken out of it first; they divide exactly.
 pub fn moment_gain(es: u64, ec: u64, rise: u64) -> u64
     requires { ⌜ GainFits es ec rise ⌝ }
     ensures { λ r. ⌜ r ≡ momentGain es ec rise ⌝ }
 {
-    es * (rise / ec) + es * (rise % ec) / ec
+    let gain = wide::product_over(es, rise, ec);
+    gain.whole
 }

@@ -6,28 +6,34 @@ use Prim.Native.Nat.{ℕ, suc, _^_, _≤_, _<_}
 use native.Mathlib.Nat.{pow-le-pow-left, pow-le-pow-right, lt-of-le-of-lt, lt-of-lt-of-le, le-trans, one-le-pow, lt-of-not-le}
 use native.Mathlib.Nat.{not-le-of-lt}
 use native.Mathlib.Omega.{arith}
+use mathlib.Core.Bool.{true, false}
 use lib.Dec.{lit<, lit≤}
-use Rattle.logarithm.specs.Logarithm.{power, lastThreshold, serviceLife, logarithm}
+use borrow.Author.Tests.{le-leb, lt-leb, leb-true}
+use Rattle.logarithm.specs.Logarithm.{power, lastThreshold, serviceLife, reaches, logarithm}
 use Rattle.logarithm.specs.Table.{IsLargest}
-use Rattle.logarithm.proofs.Largest.{no-more, is-reached, no-less, cut}
+use Rattle.logarithm.proofs.Largest.{no-more, is-reached, no-less, is-largest}
+
+-- what is reached, and what lies beyond
+pub reached : (hour k : ℕ) → 10 ^ k ≤ hour ^ power → reaches hour k ≡ true
+reached hour k h = le-leb (10 ^ k) (hour ^ power) h
+
+pub beyond : (hour k : ℕ) → hour ^ power < 10 ^ suc k → (j : ℕ) → k < j → reaches hour j ≡ false
+beyond hour k h j more = lt-leb (10 ^ j) (hour ^ power) (lt-of-lt-of-le h (pow-le-pow-right {n = 10} (lit< tt) more))
 
 pub never-falls : (earlier hour : ℕ) → earlier ≤ hour → logarithm earlier ≤ logarithm hour
 unfolding logarithm
 never-falls earlier hour h =
     ⊎-elim
     (λ none. omega arith)
-    (λ reached.
-    no-less lastThreshold (logarithm earlier) hour (no-more lastThreshold earlier) (le-trans reached (pow-le-pow-left h power)))
-    (is-reached lastThreshold earlier)
+    (λ (passes : reaches earlier (logarithm earlier) ≡ true).
+    no-less (reaches hour) lastThreshold (logarithm earlier) (no-more (reaches earlier) lastThreshold)
+    (reached hour (logarithm earlier) (le-trans (leb-true _ _ passes) (pow-le-pow-left h power))))
+    (is-reached (reaches earlier) lastThreshold)
 
 -- the two powers of ten between which an hour's power lies decide its logarithm
 pub decided : (hour k : ℕ) → k ≤ lastThreshold → 10 ^ k ≤ hour ^ power → hour ^ power < 10 ^ suc k → logarithm hour ≡ k
 unfolding logarithm
-decided hour k le at next =
-    let ends = cut lastThreshold k hour le next in
-    let most = no-more k hour in
-    let least = no-less k k hour (omega arith) at in
-    omega arith
+decided hour k le at next = is-largest (reaches hour) lastThreshold k le (reached hour k at) (beyond hour k next)
 
 pub at-first-hour : logarithm 1 ≡ 0
 at-first-hour = decided 1 0 (lit≤ tt) (lit≤ tt) (lit< tt)
@@ -46,6 +52,6 @@ pub largest : (hour : ℕ) → 1 ≤ hour → hour ≤ serviceLife → IsLargest
 unfolding logarithm
 largest hour some h = record {
   reached =
-      ⊎-elim (λ none. rw none (one-le-pow power hour some)) (λ reached. reached) (is-reached lastThreshold hour);
-  largest = λ j r. let less = within hour j h r in no-less lastThreshold j hour (omega arith) r;
+      ⊎-elim (λ none. rw none (one-le-pow power hour some)) (λ passes. leb-true _ _ passes) (is-reached (reaches hour) lastThreshold);
+  largest = λ j r. let less = within hour j h r in no-less (reaches hour) lastThreshold j (omega arith) (reached hour j r);
 }

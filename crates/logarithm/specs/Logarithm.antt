@@ -1,7 +1,8 @@
 -- The promise rests on it. The logarithm of an hour: document 01, "Hours and logarithms".
-use Prim.Native.Nat.{ℕ, zero, suc, _^_}
-use mathlib.Core.Bool.{Bool, cond}
+use Prim.Native.Nat.{ℕ, _^_}
+use mathlib.Core.Bool.{Bool}
 use lib.Dec.{leb}
+use Rattle.logarithm.specs.Largest.{largestUpTo}
 
 -- the power to which an hour is raised
 abbrev pub power : ℕ
@@ -19,12 +20,7 @@ serviceLife = 438000
 abbrev pub reaches : ℕ → ℕ → Bool
 reaches hour k = leb (10 ^ k) (hour ^ power)
 
--- the largest k up to `most` that the hour reaches, and 0 where it reaches none
-unfoldable pub largestUpTo : ℕ → ℕ → ℕ
-largestUpTo zero hour = 0
-largestUpTo (suc most) hour = cond (reaches hour (suc most)) (suc most) (largestUpTo most hour)
-
 -- "L(h) is the largest k with 10^k ≤ h^256." No hour of a member reaches 1,536, where the table ends: the law `largest` says so.
 unfoldable pub logarithm : ℕ → ℕ
 unfolding largestUpTo
-logarithm hour = largestUpTo lastThreshold hour
+logarithm hour = largestUpTo lastThreshold (reaches hour)

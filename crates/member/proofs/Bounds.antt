@@ -1,14 +1,19 @@
--- How large U and S can be: the most of their coefficients, one times another. Assumes nothing.
+-- How large U and S can be: the most of their coefficients, one times another; and how long a path: the most of its segments' lengths.
+-- Assumes nothing.
 use mathlib.Core.Path.{_≡_}
+use mathlib.Core.List.{List}
 use Prim.Native.Nat.{ℕ, _*_, _≤_}
 use native.Mathlib.Nat.{mul-le-mul, div-le-of-le-mul}
 use native.Mathlib.Omega.{arith}
+use lib.ListN.{length}
+use Rattle.fields.specs.Quantities.{Segment}
+use Rattle.fields.specs.Limits.{mostLength}
 use Rattle.coefficient.specs.declared.codes.Cure.{Cure}
 use Rattle.coefficient.specs.declared.codes.Concrete.{Concrete}
 use Rattle.coefficient.specs.Coefficients.{scf, ssf, mcf, ucr, ush}
 use Rattle.coefficient.proofs.Laws.{ucr-range, scf-range, mcf-range, ush-range, ssf-range}
-use Rattle.member.specs.Constants.{creepDivisor, shrinkageDivisor, wholeCreep, wholeShrinkage}
-use Rattle.member.specs.Facts.{mostCreep, mostShrinkage}
+use Rattle.member.specs.Constants.{creepDivisor, shrinkageDivisor, wholeCreep, wholeShrinkage, pathLength}
+use Rattle.member.specs.Facts.{SegmentsFit, no-segment, segment-fits, mostCreep, mostShrinkage}
 
 pub products : {a b x y : ℕ} → a ≡ b → x ≡ y → a * x ≡ b * y
 products e f = rw (e, f)
@@ -33,3 +38,8 @@ shrinkage-product concrete ec volumeToSurface =
 
 pub shrinkage-most : (concrete : Concrete) (ec volumeToSurface : ℕ) → wholeShrinkage concrete ec volumeToSurface ≤ mostShrinkage
 shrinkage-most concrete ec volumeToSurface = div-le-of-le-mul shrinkageDivisor (shrinkage-product concrete ec volumeToSurface)
+
+pub path-most : {segments : List Segment} → SegmentsFit segments → pathLength segments ≤ mostLength * length segments
+unfolding pathLength
+path-most no-segment = omega arith
+path-most (segment-fits first later) = omega (arith, first .length-most, path-most later)

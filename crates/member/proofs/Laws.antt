@@ -7,15 +7,17 @@ use Prim.Native.Nat.{ℕ, _+_, _*_, _≤_}
 use native.Mathlib.Omega.{arith}
 use borrow.Author.Tests.{leb-true, ltb-true, eqb-true, eqb-false}
 use lib.Dec.{leb, ltb, eqb, lit<}
-use lib.ListN.{length}
+use lib.ListN.{length, drop, length-drop}
 use Rattle.logarithm.specs.Logarithm.{serviceLife}
-use Rattle.fields.specs.Quantities.{perSegment, perAge, firstSegmentField, firstAgeField, bend, Quantities, quantitiesOf, Segment}
+use Rattle.fields.specs.Quantities.{headFields, perSegment, perAge, firstSegmentField, firstAgeField, bend, Quantities, quantitiesOf, Segment, segmentsFrom}
 use Rattle.fields.specs.Quantities.{Age, isPretensioned, isMoist, straight, parabola}
 use Rattle.fields.specs.Outcomes.{Gives}
 use Rattle.fields.specs.Limits.{Range, range, mostOfStrength, hundredths, mostLength, mostMoment, leastStraight, leastParabola}
 use Rattle.fields.specs.Limits.{mostRise, mostAngle, leastMoistTransfer, mostFriction, reportRoom, scratchRoom, mostKappa}
 use Rattle.fields.specs.Limits.{mostCreepOfKappa}
+use Rattle.fields.specs.Sizes.{mostFields}
 use Rattle.fields.specs.declared.refusal.Refusal.the-variants.{Codes, Ranges, Hours, Duct, Buffers, Section, Creep}
+use Rattle.checks.specs.Readable.{Readable}
 use Rattle.checks.specs.Places.{headOf, rangesOfLine1, rangesOfLine2, rangesOfLine3, rangesOfLine4}
 use Rattle.checks.specs.Rows.{CheckRow, firstFailing, checkedBy, within, headCodes, segmentCodes, codes, rangesOfSegments}
 use Rattle.checks.specs.Rows.{rangesOfMoments, ranges, curingFits, transferFits, hoursOfAges, hours, duct, buffers, section, creep}
@@ -26,7 +28,7 @@ use Rattle.checks.proofs.Holding.{Holds, all-hold, part-holds, other-true, aske
 use Rattle.checks.proofs.Cascade.{row-held, given-is}
 use Rattle.member.specs.declared.Member.{Member}
 use Rattle.member.specs.Member.{frictionOf, kappaOf, creepOf, memberOf, codesToDuct, buffersToCreep, checkedOf}
-use Rattle.member.specs.Facts.{SegmentFits, SegmentsFit, no-segment, segment-fits, HeadFits, RisingFrom, no-age, rises}
+use Rattle.member.specs.Facts.{PathFits, SegmentFits, SegmentsFit, no-segment, segment-fits, HeadFits, RisingFrom, no-age, rises}
 use Rattle.member.specs.Facts.{MomentsWithin, no-moment, adds, Facts}
 
 -- ---- segments and ages, along their lists
@@ -274,6 +276,15 @@ module _ (q : Quantities) where
         ages = ages-rise place (q .transfer) (q .ages) (h .1 .1);
         moments = moments-fit place (q .ownWeightMoment) (q .ages) (r .moments);
       }
+
+-- the segments of a card or a list, where they stand in its fields
+pub path-fits : (segments ages : ℕ) (fields : List ℕ) → length fields ≡ mostFields → Readable segments ages fields
+    → SegmentsFit (segmentsFrom segments (drop headFields fields)) → PathFits segments (drop headFields fields)
+path-fits segments ages fields whole readable fit = record {
+  room = rw length-drop (omega arith);
+  segments-most = readable .segments-most;
+  segments-fit = fit;
+}
 
 -- the fields of lines 1 to 4 keep to their limits, whatever stands behind them
 pub head-alone : (segments ages : ℕ) (fields : List ℕ) → FieldsFit (quantitiesOf segments ages fields) → HeadFits (headOf fields)

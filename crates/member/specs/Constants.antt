@@ -1,5 +1,5 @@
--- The promise rests on it. κ, U and S; X, and the stress along the path: document 01, "Steps", first lines and 1, and
--- document 02, W3.
+-- The promise rests on it. κ, U and S; X and the length of the path, and the stress along it: document 01, "Steps", first lines and
+-- 1, and document 02, W3 and W5.
 use Prim.Native.Nat.{ℕ, _+_, _*_, _/_, _^_}
 use mathlib.Core.Bool.{cond}
 use mathlib.Core.List.{List, [], _∷_}
@@ -55,6 +55,11 @@ unfoldable pub pathFriction : ℕ → ℕ → List Segment → ℕ
 pathFriction wobble curvature [] = 0
 pathFriction wobble curvature (segment ∷ segments) =
     wobblePart wobble segment + curvaturePart curvature segment + pathFriction wobble curvature segments
+
+-- document 02, W5: "path length P", in ticks of foot; "3 bend (length 0": a bend adds none
+unfoldable pub pathLength : List Segment → ℕ
+pathLength [] = 0
+pathLength (segment ∷ segments) = segment .length + pathLength segments
 
 -- "Both stresses begin at the jacking stress", "(stress f in ticks)"
 abbrev pub jacked : Quantities → ℕ

@@ -39,13 +39,17 @@ pub record PartFits (most factor : ℕ) (segment : Segment) : Type 0 where
 abbrev pub mostPart : ℕ
 mostPart = 10 ^ 9
 
--- what X is computed from: segments with which `list` begins
-pub record PathFits (wobble curvature segments : ℕ) (list : List ℕ) : Type 0 where
+-- what a path's length is computed from: segments with which `list` begins
+pub record PathFits (segments : ℕ) (list : List ℕ) : Type 0 where
   pub room : perSegment * segments ≤ length list
   pub segments-most : segments ≤ mostSegments
+  pub segments-fit : SegmentsFit (segmentsFrom segments list)
+
+-- what X is computed from
+pub record FrictionFits (wobble curvature segments : ℕ) (list : List ℕ) : Type 0 where
+  pub path : PathFits segments list
   pub wobble-most : wobble ≤ range .wobble .high
   pub curvature-most : curvature ≤ range .curvature .high
-  pub segments-fit : SegmentsFit (segmentsFrom segments list)
 
 -- ---- the section
 

@@ -13,7 +13,7 @@ use Rattle.coefficient.specs.declared.codes.Concrete.{Concrete}
 use Rattle.coefficient.specs.declared.codes.Steel.{Steel}
 use Rattle.coefficient.specs.declared.clocks.MemberHours.{MemberHours}
 use Rattle.member.specs.declared.Member.{Member}
-use Rattle.member.specs.Constants.{pathFriction, kappa, wholeCreep, wholeShrinkage}
+use Rattle.member.specs.Constants.{pathFriction, pathLength, kappa, wholeCreep, wholeShrinkage}
 use Rattle.checks.specs.Rows.{CheckRow, row, checkedBy, codes, ranges, hours, duct, buffers, section, creep}
 
 -- "kind (1 pretensioned, 2 post-tensioned)", "steel (1 stress-relieved, 2 low-relaxation)", "cure (1 moist, 2 accelerated)",
@@ -34,9 +34,12 @@ concreteOf code = cond (eqb code 1) Concrete.Normal Concrete.Lightweight
 abbrev pub hoursOf : Quantities → MemberHours
 hoursOf q = record { kind = kindOf (q .kind); «end_of_curing» = q .endOfCuring; transfer = q .transfer }
 
--- X, κ, U and S
+-- X, the path's length, κ, U and S
 abbrev pub frictionOf : Quantities → ℕ
 frictionOf q = pathFriction (q .wobble) (q .curvature) (q .path)
+
+abbrev pub pathLengthOf : Quantities → ℕ
+pathLengthOf q = pathLength (q .path)
 
 abbrev pub kappaOf : Quantities → ℕ
 kappaOf q = kappa (q .steelArea) (q .area) (q .eccentricity) (q .inertia)
@@ -64,6 +67,7 @@ memberOf q = record {
   eccentricity = q .eccentricity;
   «own_weight_moment» = q .ownWeightMoment;
   friction = frictionOf q;
+  «path_length» = pathLengthOf q;
   kappa = kappaOf q;
   creep = creepOf q;
   shrinkage = shrinkageOf q;

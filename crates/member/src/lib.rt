@@ -11,7 +11,7 @@ ghost use Rattle.member.specs.Member.{checkedOf};
 ghost use Rattle.member.specs.Checking.{checked, BelowDuct, Computed};
 
 pub mod codes;
-pub mod friction;
+pub mod path;
 pub mod section;
 
 use coefficient::clocks::MemberHours;
@@ -41,6 +41,7 @@ pub struct Member {
     pub eccentricity: u64,
     pub own_weight_moment: u64,
     pub friction: u64,
+    pub path_length: u64,
     pub kappa: u64,
     pub creep: u64,
     pub shrinkage: u64,
@@ -115,6 +116,7 @@ fn member_of(
         eccentricity: fields[places::ECCENTRICITY],
         own_weight_moment: fields[places::OWN_WEIGHT_MOMENT],
         friction,
+        path_length: path::path_length(from_element(fields, HEAD_FIELDS), segments as usize),
         kappa,
         creep,
         shrinkage: shrinkage_of(fields),
@@ -175,7 +177,7 @@ pub fn check_to_duct(fields: &[u64; MOST_FIELDS], segments: u64, ages: u64) -> N
     if failing != 0 {
         return NumberOrRefusal::Refused(Refusal::Hours(failing));
     }
-    let friction = friction::path_friction(
+    let friction = path::path_friction(
         from_element(fields, HEAD_FIELDS),
         segments as usize,
         fields[places::WOBBLE],

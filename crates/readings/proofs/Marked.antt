@@ -12,7 +12,8 @@ use Rattle.line.specs.Lines.{digitsOf, spacesIn}
 use Rattle.card.specs.Card.{cardOutcome}
 use Rattle.fields.specs.Quantities.{segmentsFrom, agesFrom}
 use Rattle.exponential.specs.Factor.{factor}
-use Rattle.member.specs.Constants.{pathFriction}
+use Rattle.member.specs.Constants.{pathFriction, pathLength}
+use Rattle.formulas.specs.Steps.{dropAtJack}
 use Rattle.checks.specs.Rows.{firstFailing, segmentCodes, rangesOfSegments, rangesOfMoments, hoursOfAges}
 use Rattle.member.specs.Member.{checkedOf}
 use Rattle.stages.specs.Run.{memberResult}
@@ -25,7 +26,7 @@ use Rattle.readings.specs.Readings.{double0153, halfApart}
 unfoldable computed : Unit {0}
 unfolding firstColumns agesText reportText linesOf fieldsOf hourly cardOutcome digitsOf spacesIn numbersIn segmentsFrom agesFrom checkedOf
     firstFailing segmentCodes rangesOfSegments rangesOfMoments hoursOfAges memberResult logarithm scf ssf mcf ucr ush creepShare
-    shrinkageShare pathFriction factor ticksOf magnitude
+    shrinkageShare pathFriction pathLength factor dropAtJack ticksOf magnitude
 computed = tt
 
 -- the longest run, by itself: its 128 logarithms take most of the steps that a declaration may take

@@ -15,7 +15,7 @@ use Rattle.formulas.specs.Conditions.{stressLimit}
 use Rattle.stages.specs.declared.path.Seated.{Seated}
 use Rattle.stages.specs.declared.before.BeforeAges.{BeforeAges}
 use Rattle.stages.specs.Conditions.{Bounded}
-use Rattle.stages.specs.Run.{relaxationLogarithm, earlyRelaxation, earlyRelaxationOf, seated, begunOf}
+use Rattle.stages.specs.Run.{relaxationLogarithm, earlyRelaxation, earlyRelaxationOf, slipOf, seated, begunOf}
 use Rattle.stages.proofs.Leaving.{left-fits}
 
 module _ (m : Member) (stress : ℕ) where
@@ -39,7 +39,8 @@ pub seated-fits : (m : Member) (given : Seated) → Bounded m → seated m ≡ G
 unfolding seated
 seated-fits m given bounds e =
     let rubbed = through _ _ e in
-    let slipped = through _ _ (rubbed .next-is) in
+    let slips = through (slipOf m) _ (rubbed .next-is) in
+    let slipped = through _ _ (slips .next-is) in
     let rubbed-fits = left-fits _ _ _ (rubbed .from) (bounds .jacking-fits) (rubbed .given-is) in
     let slipped-fits = left-fits _ _ _ (slipped .from) rubbed-fits (slipped .given-is) in
     let last : slipped .from ≡ given .stress = ap seated-stress (slipped .next-is) in

@@ -2,7 +2,7 @@
 -- give at the most eccentricity and the least inertia. Assumes nothing.
 use Prim.Native.Nat.{ℕ, _≤_}
 use native.Mathlib.Omega.{arith}
-use Rattle.logarithm.specs.Logarithm.{logarithm, lastThreshold}
+use Rattle.logarithm.specs.Logarithm.{reaches, logarithm, lastThreshold}
 use Rattle.logarithm.proofs.Largest.{no-more}
 use Rattle.coefficient.proofs.Laws.{creep-most, shrinkage-most}
 use Rattle.fields.specs.Limits.{mostMoment}
@@ -13,7 +13,7 @@ use Rattle.stages.specs.Run.{endAt}
 
 pub logarithm-most : (hour : ℕ) → logarithm hour ≤ lastThreshold
 unfolding logarithm
-logarithm-most hour = no-more lastThreshold hour
+logarithm-most hour = no-more (reaches hour) lastThreshold
 
 pub end-bounded : (m : Member) (moments hour : ℕ) → Bounded m → moments ≤ mostMoment → EndBounded (endAt m moments hour)
 end-bounded m moments hour bounds most = record {

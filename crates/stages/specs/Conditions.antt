@@ -8,11 +8,11 @@ use Rattle.logarithm.specs.Logarithm.{serviceLife, lastThreshold}
 use Rattle.logarithm.specs.Table.{IsTable}
 use Rattle.member.specs.declared.Member.{Member}
 use Rattle.fields.specs.Limits.{strengths, mostMoment, mostFriction, mostKappa, mostAges}
-use Rattle.formulas.specs.Conditions.{stressLimit, slipLimit, lengthLimit, deflectorLimit, leastStrength, esLimit}
-use Rattle.formulas.specs.Conditions.{eciLimit, leastEc, ecLimit, leastInertia, mostMomentStress, eccentricityLimit, creepLimit}
+use Rattle.formulas.specs.Conditions.{stressLimit, slipLimit, lengthLimit, pathLimit, deflectorLimit, leastStrength}
+use Rattle.formulas.specs.Conditions.{esLimit, eciLimit, leastEc, ecLimit, leastInertia, mostMomentStress, eccentricityLimit, creepLimit}
 use Rattle.formulas.specs.Conditions.{shrinkageLimit, mostGain}
 use Rattle.stages.specs.declared.ends.End.{End}
-use Rattle.stages.specs.Run.{jacked, transferEnd}
+use Rattle.stages.specs.Run.{jacked, frictionLossOf, transferEnd}
 
 -- ---- a member
 
@@ -34,6 +34,7 @@ pub record Bounded (m : Member) : Type 0 where
   pub eccentricity-fits : m .eccentricity < eccentricityLimit
   pub own-weight-fits : m .«own_weight_moment» ≤ mostMoment
   pub friction-most : m .friction ≤ mostFriction
+  pub path-fits : m .«path_length» < pathLimit
   pub kappa-fits : m .kappa ≤ mostKappa
   pub creep-fits : m .creep < creepLimit
   pub shrinkage-fits : m .shrinkage < shrinkageLimit
@@ -55,6 +56,11 @@ pub record EndFits (m : Member) (thresholds : List ℕ) (moments : ℕ) : Type 0
   pub moments-fit : moments ≤ mostMoment
 
 -- ---- the losses
+
+-- what slip asks, friction having taken so much
+pub record SlipFits (m : Member) (friction : ℕ) : Type 0 where
+  pub member : Bounded m
+  pub friction-is : friction ≡ frictionLossOf m
 
 -- what the losses before the ages ask, and each of them that begins with a stress
 pub record BeginFits (m : Member) (transfer : End) : Type 0 where

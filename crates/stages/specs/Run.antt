@@ -1,5 +1,5 @@
--- The promise rests on it. The losses in their order and the stress that each leaves: document 01, "Steps", and row "stress". At each
--- age the gain follows, and the stress after it: document 02, W1.
+-- The promise rests on it. The losses in their order and the stress that each leaves: document 01, "Steps", and row "stress", with slip
+-- by document 02, W5. At each age the gain follows, and the stress after it: document 02, W1.
 use Prim.Native.Nat.{ℕ, _+_, _-_, _*_, suc}
 use mathlib.Core.Bool.{cond}
 use lib.Dec.{leb}
@@ -12,8 +12,8 @@ use Rattle.logarithm.specs.Logarithm.{logarithm, serviceLife}
 use Rattle.coefficient.specs.declared.codes.Kind.{Kind}
 use Rattle.coefficient.specs.Coefficients.{sinceTensioning, sinceTransfer, sinceCuring, creepShare, shrinkageShare}
 use Rattle.member.specs.declared.Member.{Member}
-use Rattle.formulas.specs.Steps.{frictionLoss, slipLoss, deflectorTicks, relaxationLoss, momentStress, concreteStress}
-use Rattle.formulas.specs.Steps.{shorteningLoss, creepLoss, shrinkageLoss, momentGain}
+use Rattle.formulas.specs.Steps.{frictionLoss, diesOut, dropAtJack, passesTendon, dropAtSection, slipLoss, deflectorTicks}
+use Rattle.formulas.specs.Steps.{relaxationLoss, momentStress, concreteStress, shorteningLoss, creepLoss, shrinkageLoss, momentGain}
 use Rattle.stages.specs.declared.path.Seated.{Seated}
 use Rattle.stages.specs.declared.before.BeforeAges.{BeforeAges}
 use Rattle.fields.specs.Quantities.{Age, Quantities, quantitiesRead}
@@ -40,16 +40,23 @@ jacked m = m .«jacking_stress» * ticksPerUnit
 abbrev pub frictionLossOf : Member → ℕ
 frictionLossOf m = frictionLoss (jacked m) (m .friction)
 
--- "2. Slip"
-abbrev pub slipOf : Member → ℕ
-slipOf m = slipLoss (m .es) (m .slip) (m .length)
+-- "2. Slip", by document 02, W5: the drop at the section where slip dies out along the path, or "12 when the affected length .. passes
+-- the tendon length"; else by document 01
+abbrev pub slipOf : Member → OrRefusal ℕ
+slipOf m =
+    let d = frictionLossOf m in
+    let z = dropAtJack d (m .es) (m .slip) (m .«path_length») in
+    cond (diesOut d (m .«path_length»))
+    (cond (passesTendon z d (m .«path_length») (m .length)) (Refuses Refusal.AnchorSet) (Gives (dropAtSection z d)))
+    (Gives (slipLoss (m .es) (m .slip) (m .length)))
 
--- friction, slip and the stress after both
+-- friction, slip and the stress after both; 12 is "checked at the slip ahead of number 7"
 unfoldable pub seated : Member → OrRefusal Seated
 seated m =
     onward (after beforeAges (jacked m) (frictionLossOf m)) (λ rubbed.
-    onward (after beforeAges rubbed (slipOf m)) (λ stress.
-    Gives (record { friction = frictionLossOf m; slip = slipOf m; stress = stress })))
+    onward (slipOf m) (λ slip.
+    onward (after beforeAges rubbed slip) (λ stress.
+    Gives (record { friction = frictionLossOf m; slip = slip; stress = stress }))))
 
 -- ---- deflector, early relaxation and shortening
 

@@ -1,10 +1,11 @@
 -- Two lists of stresses, step beside step: the core's and the exact ones. `Chain step k` says that the two stresses after each step
--- are near, k being the steps before these; a list is read off it at any place. The path's stresses stand in front as `each`, so
+-- are near, k being the steps counted before these; a list is read off it at any place. The path's stresses stand in front as `each`, so
 -- each law has what follows the path as a parameter, and goes by the number of segments. Assumes nothing.
 use mathlib.Core.Path.{_≡_, refl, ap, _∙_}
 use mathlib.Core.List.{List, [], _∷_, _++_, append-assoc}
+use mathlib.Core.Logic.{⊎-elim}
 use Prim.Native.Nat.{ℕ, zero, suc, _+_, _*_, _<_}
-use native.Mathlib.Nat.{mul-le-mul-right}
+use native.Mathlib.Nat.{mul-le-mul-right, add-zero, eq-or-lt-of-le, le-of-suc-le-suc}
 use native.Mathlib.Omega.{arith}
 use lib.ListN.{length, getD, length-append}
 use lib.Seq.{getD-append-add}
@@ -46,14 +47,14 @@ module _ {A : Type 0} (f : ℕ → A) where
   pub each-length-then : (count : ℕ) (rest : List A) → length (each count f ++ rest) ≡ count + length rest
   each-length-then count rest = length-append (each count f) rest ∙ ap (λ n. n + length rest) (each-length count)
 
+  -- one that follows, and one of them
   pub each-then : (count : ℕ) (rest : List A) (i : ℕ) (d : A) → getD (each count f ++ rest) (count + i) d ≡ getD rest i d
   each-then count rest i d = rw each-length at (getD-append-add (each count f) rest i d)
 
-pub chain-each : (step count : ℕ) (f : ℕ → ℕ) (g : ℕ → Fraction) {xs : List ℕ} {ys : List Fraction}
-    → ((j : ℕ) → j < count → Within (whole (suc j * step)) (whole (f (suc j))) (g (suc j))) → Chain step count xs ys
-    → Chain step 0 (each count f ++ xs) (each count g ++ ys)
-unfolding each
-chain-each step zero f g near chain = chain
-chain-each step (suc count) f g {xs} {ys} near chain =
-    rw (each-more f count xs, each-more g count ys)
-    (chain-each step count f g (λ j h. near j (omega arith)) (one-step (near count (omega arith)) chain))
+  pub each-at : (count : ℕ) (rest : List A) (j : ℕ) (d : A) → j < count → getD (each count f ++ rest) j d ≡ f (suc j)
+  each-at zero rest j d h = absurd (omega arith)
+  each-at (suc count) rest j d h =
+      rw (each-more count rest)
+      (⊎-elim (λ (same : j ≡ count). rw same (rw add-zero at (each-then count (f (suc count) ∷ rest) 0 d)))
+      (λ (less : j < count). each-at count (f (suc count) ∷ rest) j d less)
+      (eq-or-lt-of-le (le-of-suc-le-suc h)))

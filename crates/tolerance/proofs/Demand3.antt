@@ -3,17 +3,20 @@
 -- step. That the stress rises neither from the jack to the path's end nor from there to the ages, and at these by no more than its gain,
 -- that the losses and the last stress add up to the jacking stress and the gains, and that the numbers are those reported, is read off the
 -- run. Assumes nothing.
-use mathlib.Core.Path.{_≡_, _∙_}
+use mathlib.Core.Path.{_≡_, refl, subst}
+use mathlib.Core.Bool.{Bool, true, false, cond}
 use mathlib.Core.List.{List, _∷_, _++_}
-use Prim.Native.Nat.{ℕ, suc, _+_, _-_, _*_, _≤_, _<_}
-use native.Mathlib.Nat.{le-refl, le-trans, min-eq-left, mul-le-mul-left, mul-le-mul-right}
+use Prim.Native.Nat.{ℕ, zero, suc, _+_, _-_, _*_, _≤_, _<_}
+use native.Mathlib.Nat.{le-refl, le-trans, min-eq-left, mul-le-mul-left, mul-le-mul-right, add-sub-cancel-left}
+use native.Mathlib.Decide.{decLt}
 use native.Mathlib.Omega.{arith}
+use borrow.Author.Tests.{lt-ltb, le-ltb}
 use lib.ListN.{length, getD, take, length-take}
 use lib.Seq.{take-all}
-use Rattle.fraction.specs.Fraction.{whole, larger, Within}
+use Rattle.fraction.specs.Fraction.{Fraction, whole, larger, Within}
 use Rattle.fraction.proofs.Laws.{≈-sym, ≼-trans, ≼-of-≈, whole-⊕, zero-⊕, larger-left, larger-right}
 use Rattle.fraction.proofs.Floors.{whole-order}
-use Rattle.fraction.proofs.Distances.{within-weaken}
+use Rattle.fraction.proofs.Distances.{within-refl, within-weaken}
 use Rattle.fields.specs.Outcomes.{Gives}
 use Rattle.fields.specs.Quantities.{Quantities}
 use Rattle.fields.specs.Limits.{mostSegments, mostAges, mostFriction}
@@ -26,17 +29,18 @@ use Rattle.member.specs.Member.{memberOf, frictionOf}
 use Rattle.member.specs.Facts.{SegmentsFit, Facts}
 use Rattle.stages.specs.declared.before.BeforeAges.{BeforeAges}
 use Rattle.stages.specs.Run.{Report, memberResult}
-use Rattle.tolerance.specs.Method.{Choice, exponentAlong, FactorsAlong, stressAlong, afterDeflector}
-use Rattle.tolerance.specs.Demand.{stepsOf, each, exactAfterSlip, exactStresses, coreAfterSlip, coreAfterDeflector}
+use Rattle.tolerance.specs.Method.{Choice, exponentAlong, FactorsAlong, stressAlong, afterTendonSlip, afterDeflector}
+use Rattle.tolerance.specs.Method.{stepsAfterSlip}
+use Rattle.tolerance.specs.Demand.{stepsOf, exactAfterSlip, exactStresses, coreAfterSlip, coreAfterDeflector}
+use Rattle.tolerance.specs.Demand.{slipDiesOut, countedAtSlip, counted, coreAfterEarly, stressesBy}
 use Rattle.tolerance.specs.Demand.{stressesOf, coreAfterPath, coreStresses, Close, Falls, Linked, Demand3, lossesBefore}
 use Rattle.tolerance.specs.Demand.{lossesOfRows, gainsOfRows}
 use Rattle.tolerance.proofs.Path.{pathError, friction-of-part, segments-fit-take, exponent-not-negative, exponent-most, path-close}
 use Rattle.tolerance.proofs.Concrete.{highestStress}
 use Rattle.tolerance.proofs.Bounds.{low, low-top}
 use Rattle.tolerance.proofs.Allowance.{Allowance, narrow-allowance, wide-allowance}
-use Rattle.tolerance.proofs.Chains.{Chain, one-step, chain-at, chain-lengths, chain-each}
-use Rattle.tolerance.proofs.Chains.{each-length-then, each-then}
-use Rattle.tolerance.proofs.Run.{Began, AgesRun, run, ages-rise, ages-close-up, ages-end, rows-count, stresses-count}
+use Rattle.tolerance.proofs.Chains.{Chain, chain-at, chain-lengths, each-length-then, each-at, each-then}
+use Rattle.tolerance.proofs.Run.{Began, AgesRun, run, slips-over-the-tendon, slips-exactly, ages-rise, ages-close-up, ages-end, rows-count, stresses-count}
 use Rattle.tolerance.proofs.Distance.{slip-keeps-distance, deflector-keeps-distance}
 use Rattle.tolerance.proofs.Near.{slipError, after-slip-near}
 use Rattle.tolerance.proofs.Closeness.{step-close, deflected, after-slip-close}
@@ -50,6 +54,9 @@ module _ {q : Quantities} {report scratch : ℕ} (facts : Facts q report scratch
   -- the core's stresses after the path
   abbrev rest : List ℕ
   rest = coreAfterPath q before ++ stressesOf (given .rows)
+
+  abbrev segments : ℕ
+  segments = length (q .path)
 
   -- the core's stress after so many segments
   abbrev along : ℕ → ℕ
@@ -102,38 +109,104 @@ module _ {q : Quantities} {report scratch : ℕ} (facts : Facts q report scratch
     along-path j h =
         within-weaken (whole-order (omega (arith, mul-le-mul-left (suc j) segment-covered))) (along-close (suc j) h)
 
-    after-slip : Within (whole (suc (length (q .path)) * step)) (whole (coreAfterSlip q before)) (exactAfterSlip choice q)
-    after-slip =
-        let segments = length (q .path) in
+    -- slip over the tendon is one step more
+    over-the-tendon : slipDiesOut q before ≡ false
+        → Within (whole (suc (length (q .path)) * step)) (whole (coreAfterSlip q before))
+        (afterTendonSlip choice q (stressAlong choice q (length (q .path))))
+    over-the-tendon not =
         let x = ticksAlong q (q .path) in
         let y = stressAlong choice q segments in
-        rw (end-of-path, began .slip)
+        let slip = slips-over-the-tendon began not in
+        rw (end-of-path, slip)
         (within-weaken
         (≼-trans (≼-of-≈ (≈-sym (whole-⊕ slipError (pathError segments)))) (whole-order (slip-covered segments)))
         (step-close (slip-keeps-distance choice q (larger (whole x) y)) (larger-left (whole x) y) (larger-right (whole x) y)
-        (after-slip-near facts choice x (omega (arith, began .closes, began .slip, end-of-path)))
+        (after-slip-near facts choice x (omega (arith, began .closes, slip, end-of-path)))
         (rw (take-all segments (q .path) (le-refl segments)) at (along-close segments (le-refl segments)))))
 
-    after-deflector : Within (whole (suc (length (q .path)) * step)) (whole (coreAfterDeflector q before))
-        (afterDeflector choice q (exactAfterSlip choice q))
+    -- and where slip dies out along the path both go on from the core's stress
+    after-slip : Within (whole (countedAtSlip q before * step)) (whole (coreAfterSlip q before)) (exactAfterSlip choice q before)
+    after-slip = by (slipDiesOut q before) refl
+      where
+        by : (dies : Bool) → slipDiesOut q before ≡ dies
+            → Within (whole (cond dies 0 (suc (length (q .path))) * step)) (whole (coreAfterSlip q before))
+            (cond dies (whole (coreAfterSlip q before)) (afterTendonSlip choice q (stressAlong choice q (length (q .path)))))
+        by true so = within-weaken (whole-order (omega arith)) (within-refl (whole (coreAfterSlip q before)))
+        by false not = over-the-tendon not
+
+    after-deflector : Within (whole (countedAtSlip q before * step)) (whole (coreAfterDeflector q before))
+        (afterDeflector choice q (exactAfterSlip choice q before))
     after-deflector =
         let x = whole (coreAfterSlip q before) in
-        let y = exactAfterSlip choice q in
-        within-weaken (≼-of-≈ (zero-⊕ (whole (suc (length (q .path)) * step))))
+        let y = exactAfterSlip choice q before in
+        within-weaken (≼-of-≈ (zero-⊕ (whole (countedAtSlip q before * step))))
         (step-close (deflector-keeps-distance choice q (larger x y)) (larger-left x y) (larger-right x y)
         (deflected facts allowed began ran) after-slip)
 
-    chain : Chain step 0 (coreStresses q given) (exactStresses choice q)
+    -- the exact stresses after the path
+    abbrev exact-rest : List Fraction
+    exact-rest = exactAfterSlip choice q before ∷ stressesBy (stepsAfterSlip choice q) (exactAfterSlip choice q before)
+
+    counted-few : countedAtSlip q before ≤ suc mostSegments
+    counted-few = by (slipDiesOut q before)
+      where
+        by : (dies : Bool) → cond dies 0 (suc (length (q .path))) ≤ suc mostSegments
+        by true = omega arith
+        by false = omega arith
+
+    chain : Chain step (countedAtSlip q before) (coreAfterEarly q before ∷ before .stress ∷ stressesOf (given .rows))
+        (stressesBy (stepsAfterSlip choice q) (exactAfterSlip choice q before))
     chain =
-        chain-each step (length (q .path)) along (stressAlong choice q) along-path
-        (one-step after-slip
-        (after-slip-close facts allowed began ran (suc (length (q .path))) (exactAfterSlip choice q) (omega arith) after-slip))
+        after-slip-close facts allowed began ran (countedAtSlip q before) (exactAfterSlip choice q before)
+        (omega (arith, counted-few)) after-slip
+
+    from-slip : (i : ℕ) → i < length rest
+        → Within (whole ((countedAtSlip q before + i) * step)) (whole (getD rest i 0)) (getD exact-rest i (whole 0))
+    from-slip zero h = within-weaken (whole-order (mul-le-mul-right step (omega arith))) after-slip
+    from-slip (suc i) h = chain-at chain i (omega arith)
+
+    abbrev CloseAt : ℕ → Type 0
+    CloseAt place =
+        Within (whole (counted q before place * step)) (whole (getD (coreStresses q given) place 0))
+        (getD (exactStresses choice q before) place (whole 0))
+
+    close-at : (place : ℕ) → place < stepsOf q → CloseAt place
+    close-at place h = by (decLt place (length (q .path)))
+      where
+        later : (i : ℕ) → i < length rest → CloseAt (segments + i)
+        later i h =
+            rw (
+              le-ltb (segments + i) segments (omega arith),
+              each-then along segments rest i 0,
+              each-then (stressAlong choice q) segments exact-rest i (whole 0),
+              add-sub-cancel-left segments i,
+            )
+            (from-slip i h)
+
+        by : Dec (place < segments) → CloseAt place
+        by (yes less) =
+            rw (
+              lt-ltb place segments less,
+              each-at along segments rest place 0 less,
+              each-at (stressAlong choice q) segments exact-rest place (whole 0) less,
+            )
+            (along-path place less)
+        by (no not-less) =
+            let at : segments + (place - segments) ≡ place = omega arith in
+            subst CloseAt at (later (place - segments) (omega (arith, count, each-length-then along segments rest)))
 
     close : Close step choice q given
     close = record {
       core-count = count;
-      exact-count = chain-lengths chain ∙ count;
-      steps = λ k h. within-weaken (whole-order (mul-le-mul-right step (omega arith))) (chain-at chain k (omega (arith, count)));
+      exact-count =
+          omega (
+            arith,
+            each-length-then (stressAlong choice q) (length (q .path)) exact-rest,
+            chain-lengths chain,
+            each-length-then along (length (q .path)) rest,
+            count,
+          );
+      steps = close-at;
       deflector = after-deflector;
     }
 
@@ -167,6 +240,7 @@ demand-3 q report scratch few-segments few-ages facts given result =
     record {
       narrow = λ factor factors. close facts few-segments few-ages began ran narrow-allowance factors;
       wide = λ choice admissible. close facts few-segments few-ages began ran (wide-allowance admissible) (admissible .factors);
+      slip-exact = slips-exactly began;
       some-factors = some-factors facts few-segments few-ages began ran;
       falls = falls facts few-segments few-ages began ran;
       rises = ages-rise facts ran;

@@ -20,7 +20,7 @@ use Rattle.member.specs.Member.{kindOf, steelOf, kappaOf, creepOf}
 use Rattle.member.specs.Facts.{RisingFrom, no-age, rises, Facts}
 use Rattle.tolerance.specs.Formulas.{kappa, wholeCreep, wholeShrinkage, slipLoss, relaxationLoss, concreteStress}
 use Rattle.tolerance.specs.Formulas.{shorteningLoss, creepLoss, shrinkageLoss}
-use Rattle.tolerance.specs.Method.{Choice, End, endAt, transferEnd, earlyRelaxation, afterSlip, afterDeflector, afterEarly}
+use Rattle.tolerance.specs.Method.{Choice, End, endAt, transferEnd, earlyRelaxation, afterTendonSlip, afterDeflector, afterEarly}
 use Rattle.tolerance.specs.Method.{afterShortening, afterAge, ageSteps, stepsAfterSlip}
 use Rattle.tolerance.proofs.Rounded.{rounded-not-negative}
 use Rattle.tolerance.proofs.Logarithms.{mostRise, Logs, rise-not-negative, rise-top}
@@ -49,7 +49,7 @@ pub record Later (start end : End) : Type 0 where
   pub logarithm-least : whole 0 ≼ end .logarithm ⊖ start .logarithm
   pub logarithm-most : end .logarithm ⊖ start .logarithm ≼ whole mostRise
 
-pub slip-keeps-distance : (choice : Choice) (q : Quantities) (most : Fraction) → KeepsDistance most (afterSlip choice q)
+pub slip-keeps-distance : (choice : Choice) (q : Quantities) (most : Fraction) → KeepsDistance most (afterTendonSlip choice q)
 slip-keeps-distance choice q most = constant-keeps-distance most (slipLoss (q .Es) (q .slip) (q .tendonLength))
 
 pub deflector-keeps-distance : (choice : Choice) (q : Quantities) (most : Fraction) → KeepsDistance most (afterDeflector choice q)

@@ -21,7 +21,7 @@ use Rattle.stages.specs.declared.ends.End.{End as TicksEnd}
 use Rattle.stages.specs.declared.intervals.Row.{Row}
 use Rattle.stages.specs.Run.{earlyRelaxation as ticksEarly, earlyRelaxationOf, shorteningOf, lossesBetween, together, gainBetween}
 use Rattle.tolerance.specs.Formulas.{kappa}
-use Rattle.tolerance.specs.Method.{Choice, End, transferEnd, earlyRelaxation, afterSlip, afterDeflector, afterEarly}
+use Rattle.tolerance.specs.Method.{Choice, End, transferEnd, earlyRelaxation, afterTendonSlip, afterDeflector, afterEarly}
 use Rattle.tolerance.specs.Method.{afterShortening, afterAge, ageSteps}
 use Rattle.tolerance.specs.Demand.{stressesOf}
 use Rattle.tolerance.proofs.Rounded.{floor-rounded, rounded-within, taken-off}
@@ -49,7 +49,7 @@ sum-near a b d e near-x near-y =
 
 module _ {q : Quantities} {report scratch : ℕ} (facts : Facts q report scratch) (choice : Choice) (n : ℕ) where
   pub after-slip-near : ticksSlipLoss (q .Es) (q .slip) (q .tendonLength) ≤ n
-      → Within (whole slipError) (whole (n - ticksSlipLoss (q .Es) (q .slip) (q .tendonLength))) (afterSlip choice q (whole n))
+      → Within (whole slipError) (whole (n - ticksSlipLoss (q .Es) (q .slip) (q .tendonLength))) (afterTendonSlip choice q (whole n))
   after-slip-near fits =
       taken-off fits
       (rounded-within (whole-not-negative slipError)

@@ -4,6 +4,7 @@
 -- at an age by just its gain, that the ages' losses and the last stress add up to the stress before them and their gains, and that the
 -- last of them is the reported last stress. Assumes nothing.
 use mathlib.Core.Path.{_≡_, refl, ap, subst}
+use mathlib.Core.Bool.{true, false}
 use mathlib.Core.List.{List, [], _∷_}
 use Prim.Native.Nat.{ℕ, suc, _+_, _-_, _≤_}
 use native.Mathlib.Nat.{add-zero, sub-self, mul-zero, zero-div}
@@ -13,19 +14,21 @@ use Rattle.fields.specs.Outcomes.{OrRefusal, Gives, onward}
 use Rattle.fields.specs.Quantities.{Quantities, Age}
 use Rattle.fields.specs.Limits.{leastStress}
 use Rattle.fields.proofs.Onward.{through}
-use Rattle.member.specs.Member.{memberOf}
+use Rattle.member.specs.Member.{memberOf, pathLengthOf}
 use Rattle.member.specs.Facts.{Facts}
 use Rattle.member.specs.Constants.{jacked, stressAlong as ticksAlong}
-use Rattle.formulas.specs.Steps.{slipLoss, deflectorTicks, momentGain}
+use Rattle.formulas.specs.Steps.{dropAtJack, slipLoss, deflectorTicks, momentGain}
+use Rattle.formulas.proofs.Drop.{both-above, is-drop}
 use Rattle.stages.specs.declared.before.BeforeAges.{BeforeAges}
 use Rattle.stages.specs.declared.ends.End.{End}
 use Rattle.stages.specs.declared.intervals.Losses.{Losses}
 use Rattle.stages.specs.declared.intervals.Row.{Row}
-use Rattle.stages.specs.Run.{after, beforeAges, earlyRelaxationOf, shorteningOf, seated, begunOf, endAt, transferEnd, lossesBetween}
-use Rattle.stages.specs.Run.{together, lifted, gainBetween, rowOf, rowBetween, Aged, agedFrom, Report, memberResult}
+use Rattle.stages.specs.Run.{after, beforeAges, slipOf, earlyRelaxationOf, shorteningOf, seated, begunOf, endAt, transferEnd}
+use Rattle.stages.specs.Run.{lossesBetween, together, lifted, gainBetween, rowOf, rowBetween, Aged, agedFrom, Report, memberResult}
 use Rattle.stages.proofs.Leaving.{after-gives, lifted-gives}
+use Rattle.stages.proofs.Slipping.{given-over-the-tendon, given-at-the-section}
 use Rattle.tolerance.specs.Demand.{coreAfterDeflector, coreAfterEarly, stressesOf, lossesBefore, lossesOfRows, gainsOfRows}
-use Rattle.tolerance.specs.Demand.{gUnder, RisesByGain, EachRisesByGain}
+use Rattle.tolerance.specs.Demand.{slipDiesOut, SlipIsExact, gUnder, RisesByGain, EachRisesByGain}
 use Rattle.tolerance.specs.Demand.{no-age as none-rises, an-age as one-rises}
 use Rattle.tolerance.proofs.Bounds.{Low, moment-rises}
 
@@ -53,7 +56,7 @@ rises-on q number stress gain next e =
 -- the five losses, each from the stress before it, and the stress that they leave
 pub record Began (q : Quantities) (before : BeforeAges) : Type 0 where
   pub friction : before .friction ≡ jacked q - ticksAlong q (q .path)
-  pub slip : before .slip ≡ slipLoss (q .Es) (q .slip) (q .tendonLength)
+  pub slip : slipOf (memberOf q) ≡ Gives (before .slip)
   pub deflector : before .deflector ≡ deflectorTicks (q .deflectorLoss)
   pub early : before .«early_relaxation» ≡ earlyRelaxationOf (memberOf q) (coreAfterDeflector q before)
   pub shortening : before .shortening ≡ shorteningOf (memberOf q) (coreAfterEarly q before)
@@ -70,11 +73,12 @@ unfolding begunOf seated memberOf
 begun q e =
     let m = memberOf q in
     let f = jacked q - ticksAlong q (q .path) in
-    let s = slipLoss (q .Es) (q .slip) (q .tendonLength) in
     let d = deflectorTicks (q .deflectorLoss) in
     let sat = through (seated m) _ e in
     let (rubbed, e) = goes-on beforeAges (jacked q) f _ (sat .given-is) in
-    let (slipped, e) = goes-on beforeAges (jacked q - f) s _ e in
+    let slips = through (slipOf m) _ e in
+    let s = slips .from in
+    let (slipped, e) = goes-on beforeAges (jacked q - f) s _ (slips .next-is) in
     let (deflected, e) = goes-on beforeAges (jacked q - f - s) d _ (rw (← gives-same e) at (sat .next-is)) in
     let r = earlyRelaxationOf m (jacked q - f - s - d) in
     let (relaxed, e) = goes-on beforeAges (jacked q - f - s - d) r _ e in
@@ -82,12 +86,30 @@ begun q e =
     let (shortened, e) = goes-on beforeAges (jacked q - f - s - d - r) c _ e in
     subst (λ b. Began q b) (gives-same e) (record {
       friction = refl;
-      slip = refl;
+      slip = slips .given-is;
       deflector = refl;
       early = refl;
       shortening = refl;
       closes = five-losses (jacked q) f s d r c rubbed slipped deflected relaxed shortened;
     })
+
+-- what slip takes where it does not die out along the path, and where it does
+pub slips-over-the-tendon : {q : Quantities} {before : BeforeAges} → Began q before → slipDiesOut q before ≡ false
+    → before .slip ≡ slipLoss (q .Es) (q .slip) (q .tendonLength)
+unfolding memberOf
+slips-over-the-tendon {q} began not = given-over-the-tendon (memberOf q) (began .slip) (rw (began .friction) at not)
+
+pub slips-exactly : {q : Quantities} {before : BeforeAges} → Began q before → slipDiesOut q before ≡ true → SlipIsExact q before
+unfolding memberOf
+slips-exactly {q} {before} began so =
+    let d = jacked q - ticksAlong q (q .path) in
+    let given = given-at-the-section (memberOf q) (began .slip) (rw (began .friction) at so) in
+    record {
+      drop = dropAtJack d (q .Es) (q .slip) (pathLengthOf q);
+      is-drop = rw (began .friction) (is-drop d (q .Es) (q .slip) (pathLengthOf q) (both-above (before .friction) (pathLengthOf q) so .1));
+      at-section = rw (began .friction) (given .1);
+      within-tendon = rw (began .friction) (given .0);
+    }
 
 -- ---- the ages
 

@@ -1,6 +1,9 @@
--- The promise rests on it. Demand 3 as one statement about an accepted run: document 01, "Steps", last paragraph; document 02, W1 and W3.
+-- The promise rests on it. Demand 3 as one statement about an accepted run: document 01, "Steps", last paragraph; document 02, W1, W3
+-- and W5.
 use Prim.Native.Nat.{ℕ, zero, suc, _+_, _-_, _*_, _≤_, _<_}
+use mathlib.Core.Bool.{Bool, true, false, cond}
 use mathlib.Core.List.{List, [], _∷_, _++_}
+use lib.Dec.{ltb}
 use lib.ListN.{length, take, getD}
 use mathlib.Core.Path.{_≡_}
 use Rattle.fraction.specs.Fraction.{Fraction, whole, Within}
@@ -8,7 +11,8 @@ use Rattle.fields.specs.Quantities.{Quantities, Age}
 use Rattle.member.specs.Constants.{jacked, stressAlong as ticksAlong}
 use Rattle.stages.specs.declared.before.BeforeAges.{BeforeAges}
 use Rattle.stages.specs.declared.intervals.Row.{Row}
-use Rattle.formulas.specs.Steps.{momentStress, momentGain}
+use Rattle.formulas.specs.Steps.{diesOut, IsDropAtJack, passesTendon, dropAtSection, momentStress, momentGain}
+use Rattle.member.specs.Member.{pathLengthOf}
 use Rattle.stages.specs.Run.{Report}
 use Rattle.exponential.specs.Factor.{powers}
 use Rattle.exponential.specs.Series.{sumTo}
@@ -24,20 +28,6 @@ stepsOf q = length (q .path) + length (q .ages) + 3
 unfoldable pub each : {A : Type 0} → ℕ → (ℕ → A) → List A
 each zero f = []
 each (suc count) f = each count f ++ (f (suc count) ∷ [])
-
--- in fractions: the stress after each of some steps, from this one on
-unfoldable pub stressesBy : List (Fraction → Fraction) → Fraction → List Fraction
-stressesBy [] stress = []
-stressesBy (step ∷ steps) stress = step stress ∷ stressesBy steps (step stress)
-
-abbrev pub exactAfterSlip : Choice → Quantities → Fraction
-exactAfterSlip choice q = afterSlip choice q (stressAlong choice q (length (q .path)))
-
--- the stress after every step
-abbrev pub exactStresses : Choice → Quantities → List Fraction
-exactStresses choice q =
-    each (length (q .path)) (stressAlong choice q)
-    ++ (exactAfterSlip choice q ∷ stressesBy (stepsAfterSlip choice q) (exactAfterSlip choice q))
 
 -- ---- the core's: "the one these lines give in ticks, and where reply or report has it, the number there"
 
@@ -63,6 +53,39 @@ abbrev pub coreStresses : Quantities → Report → List ℕ
 coreStresses q report =
     each (length (q .path)) (λ j. ticksAlong q (take j (q .path))) ++ (coreAfterPath q (report .before) ++ stressesOf (report .rows))
 
+-- ---- in fractions
+
+-- the stress after each of some steps, from this one on
+unfoldable pub stressesBy : List (Fraction → Fraction) → Fraction → List Fraction
+stressesBy [] stress = []
+stressesBy (step ∷ steps) stress = step stress ∷ stressesBy steps (step stress)
+
+abbrev pub exactAfterSlip : Choice → Quantities → BeforeAges → Fraction
+exactAfterSlip choice q before =
+    afterSlip choice q (before .friction) (coreAfterSlip q before) (stressAlong choice q (length (q .path)))
+
+-- the stress after every step, beside the core's
+abbrev pub exactStresses : Choice → Quantities → BeforeAges → List Fraction
+exactStresses choice q before =
+    each (length (q .path)) (stressAlong choice q)
+    ++ (exactAfterSlip choice q before ∷ stressesBy (stepsAfterSlip choice q) (exactAfterSlip choice q before))
+
+-- ---- how far apart
+
+-- whether slip dies out along the path, by "the core's d"
+abbrev pub slipDiesOut : Quantities → BeforeAges → Bool
+slipDiesOut q before = diesOut (before .friction) (pathLengthOf q)
+
+-- the steps that are counted at slip: all so far; but document 02, W5: the distance "is then counted anew from the stress after slip, with
+-- only the steps after it"
+abbrev pub countedAtSlip : Quantities → BeforeAges → ℕ
+countedAtSlip q before = cond (slipDiesOut q before) 0 (suc (length (q .path)))
+
+-- the steps that are counted after the step at this place, from 0: "through friction" all of them, and then those from slip on
+abbrev pub counted : Quantities → BeforeAges → ℕ → ℕ
+counted q before place =
+    cond (ltb place (length (q .path))) (suc place) (countedAtSlip q before + (place - length (q .path)))
+
 -- what the delivery note allows a step, in ticks: 1 psi where the fractions read the core's logarithms, and 40 psi whatever admissible
 -- ones they read; document 02, W3: "The 1 psi a step must survive"
 abbrev pub narrowStep : ℕ
@@ -71,16 +94,25 @@ narrowStep = 1 * ticksPerUnit
 abbrev pub wideStep : ℕ
 wideStep = 40 * ticksPerUnit
 
--- two lists with a stress for each step. After every step k, counted from 1, the two stresses differ by at most k times `step` ticks;
--- "what holds after slip holds after" the deflector loss, which is no step
+-- two lists with a stress for each step. After every step the two stresses differ by at most `step` ticks for each step counted; "what
+-- holds after slip holds after" the deflector loss, which is no step
 pub record Close (step : ℕ) (choice : Choice) (q : Quantities) (report : Report) : Type 0 where
   pub core-count : length (coreStresses q report) ≡ stepsOf q
-  pub exact-count : length (exactStresses choice q) ≡ stepsOf q
-  pub steps : (k : ℕ) → k < stepsOf q
-      → Within (whole (suc k * step)) (whole (getD (coreStresses q report) k 0)) (getD (exactStresses choice q) k (whole 0))
+  pub exact-count : length (exactStresses choice q (report .before)) ≡ stepsOf q
+  pub steps : (place : ℕ) → place < stepsOf q
+      → Within (whole (counted q (report .before) place * step)) (whole (getD (coreStresses q report) place 0))
+      (getD (exactStresses choice q (report .before)) place (whole 0))
   pub deflector :
-      Within (whole (suc (length (q .path)) * step)) (whole (coreAfterDeflector q (report .before)))
-      (afterDeflector choice q (exactAfterSlip choice q))
+      Within (whole (countedAtSlip q (report .before) * step)) (whole (coreAfterDeflector q (report .before)))
+      (afterDeflector choice q (exactAfterSlip choice q (report .before)))
+
+-- where slip dies out along the path, what the method in fractions enters with is not just any stress: the slip reported is the drop at
+-- the section, made of the drop at the jack, "exact by its two squares", for the friction reported; and it ends within the tendon
+pub record SlipIsExact (q : Quantities) (before : BeforeAges) : Type 0 where
+  pub drop : ℕ
+  pub is-drop : IsDropAtJack (before .friction) (q .Es) (q .slip) (pathLengthOf q) drop
+  pub at-section : before .slip ≡ dropAtSection drop (before .friction)
+  pub within-tendon : passesTendon drop (before .friction) (pathLengthOf q) (q .tendonLength) ≡ false
 
 -- no stress is larger than the one before it: "no step raises the stress", up to the ages; and document 02, W3: "friction counts as a
 -- single fall, from the jack to the path's end, where a rise of stress is ruled out"
@@ -137,6 +169,7 @@ pub record Linked (q : Quantities) (report : Report) : Type 0 where
 pub record Demand3 (q : Quantities) (report : Report) : Type 0 where
   pub narrow : (factor : ℕ → Fraction) → FactorsAlong q factor → Close narrowStep (tableChoice factor) q report
   pub wide : (choice : Choice) → Admissible q choice → Close wideStep choice q report
+  pub slip-exact : slipDiesOut q (report .before) ≡ true → SlipIsExact q (report .before)
   -- there are such factors: the sums up to the 15th power
   pub some-factors : FactorsAlong q (λ j. sumTo powers (exponentAlong q j))
   pub falls : Falls (jacked q) (ticksAlong q (q .path) ∷ coreAfterPath q (report .before))

@@ -103,6 +103,7 @@ impl fmt::Display for Refusal {
             (10, 1) => write!(f, "the report has no room"),
             (10, 2) => write!(f, "the scratch has no room"),
             (11, _) => write!(f, "the gain of age {place} lifts the stress above 0.80 of the ultimate strength"),
+            (12, _) => write!(f, "the wedge slip reaches further along the duct than the tendon is long"),
             (number, _) => write!(f, "refusal {number}, place {place}"),
         }
     }
@@ -120,7 +121,7 @@ pub struct Row {
     pub gain: f64,
 }
 
-/// An accepted run, in psi.
+/// An accepted run, in psi. The slip is the drop of stress at the section, 0 where friction lets the wedge slip die out before it.
 #[derive(Debug, Clone, PartialEq)]
 pub struct Run {
     pub friction: f64,

@@ -1,11 +1,11 @@
-//! The core against the papers' method as the tests write it, on random inputs: good members, some with long ducts, edges of every range,
-//! damaged bytes, NaN payloads, odd lengths, short buffers. Every byte of reply, report and scratch is compared. And cards with a blank
-//! slip, against the same cards that write it.
+//! The core against the papers' method as the tests write it, on random inputs: good members, some with long ducts, a quarter of all with
+//! an anchor set that dies out along the duct, edges of every range, damaged bytes, NaN payloads, odd lengths, short buffers. Every byte of
+//! reply, report and scratch is compared. And cards with a blank slip, against the same cards that write it.
 
 mod paper;
 
 use paper::Field::*;
-use paper::{age, head_lines, in_ticks, read_card, read_list, refused, segment, Field, Paper, Reading, Refusal, Run};
+use paper::{age, head_lines, in_ticks, read_card, read_list, refused, segment, Answer, Field, Member, Paper, Reading, Refusal, Run};
 use paper::{ACCELERATED, AGE_FIELDS, BEND, BLANK_SLIP, CODES, COLUMNS, FIRST_CODE, HEAD_FIELDS, LAST_CODE, LEAST_AGES, LEAST_TRANSFER};
 use paper::{LEAST_TRANSFER_IF_MOIST, LIFE, MOIST, MOST_AGES, MOST_CURING_IF_MOIST, MOST_SEGMENTS, MOST_STRENGTH, MOST_TRANSFER};
 use paper::{PARABOLA, POST_TENSIONED, PRETENSIONED, RANGES, ROW_NUMBERS, SCRATCH_NUMBERS_OF_AGE, SEGMENT_FIELDS, STRAIGHT, TICKS};
@@ -19,6 +19,9 @@ const ANSWERS: usize = refused::LAST as usize + 1;
 
 /// Each answer comes up at least so often.
 const LEAST_COUNT: usize = 50;
+
+/// At least one case in so many sets its anchor along a duct, by document 02's W5.
+const CASES_TO_A_SET: usize = 4;
 
 /// The slip of older wedges, which a blank field read before document 02's W2.
 const OLDER_SLIP: u64 = 256;
@@ -74,10 +77,13 @@ fn section(r: &mut Random, area: u64) -> [(Field, u64); 4] {
     }
 }
 
-/// Fields of the duct. At times it is long: with the segments below, its X comes up to 1.5 T and beyond.
+/// Fields of the duct. At times it is long: with the segments below, its X comes up to 1.5 T and beyond. At times it has hardly any
+/// friction, or none: there the drop at the jack is steep in the friction, or the slip goes by the tendon's length.
 fn duct(r: &mut Random) -> [(Field, u64); 3] {
     if r.one_in(3) {
         [(Wobble, r.below(1000)), (Curvature, r.below(400_000)), (Segments, r.between(16, MOST_SEGMENTS))]
+    } else if r.one_in(8) {
+        [(Wobble, r.below(3)), (Curvature, r.below(3)), (Segments, r.between(1, 3))]
     } else {
         let segments = if r.one_in(8) { MOST_SEGMENTS } else { r.below(8) };
         [(Wobble, r.below(400)), (Curvature, r.below(250_000)), (Segments, segments)]
@@ -86,7 +92,7 @@ fn duct(r: &mut Random) -> [(Field, u64); 3] {
 
 /// The head of a member that is often accepted.
 fn head(r: &mut Random) -> Vec<u64> {
-    let kind = r.between(PRETENSIONED, POST_TENSIONED);
+    let kind = if r.one_in(3) { PRETENSIONED } else { POST_TENSIONED };
     let moist = r.one_in(2);
     let earliest = if moist { LEAST_TRANSFER_IF_MOIST } else { LEAST_TRANSFER };
     let latest_curing = if moist { MOST_CURING_IF_MOIST } else { MOST_TRANSFER };
@@ -102,7 +108,7 @@ fn head(r: &mut Random) -> Vec<u64> {
     set(UltimateStrength, strength);
     set(JackingStress, strength * jacked / 100);
     set(DeflectorLoss, if kind == PRETENSIONED && r.one_in(3) { r.below(5000) } else { 0 });
-    set(Slip, r.pick(&[0, 0, 64, 256, 384, 1024]));
+    set(Slip, r.pick(&[0, 0, 1, 64, 256, 384, 384, 1024, 2048]));
     set(Length, r.between(20_480, 2_097_152));
     set(Cure, if moist { MOIST } else { ACCELERATED });
     set(Concrete, r.between(FIRST_CODE, LAST_CODE));
@@ -115,7 +121,7 @@ fn head(r: &mut Random) -> Vec<u64> {
     set(EndOfCuring, if kind == PRETENSIONED { transfer } else { r.between(0, transfer.min(MOST_CURING_IF_MOIST)) });
     set(Transfer, transfer);
     duct(r).into_iter().for_each(|(field, number)| set(field, number));
-    if kind == PRETENSIONED || r.one_in(3) {
+    if kind == PRETENSIONED || r.one_in(6) {
         set(Segments, 0);
     }
     set(Ages, if r.one_in(8) { MOST_AGES } else { r.between(LEAST_AGES, 12) });
@@ -128,6 +134,7 @@ fn member(r: &mut Random) -> Vec<u64> {
     let (segments, ages) = (f[Segments.at()], f[Ages.at()]);
     for _ in 0..segments {
         f.extend(match r.pick(&[STRAIGHT, PARABOLA, BEND]) {
+            STRAIGHT if r.one_in(8) => segment(STRAIGHT, r.between(1, 8), 0),
             STRAIGHT => segment(STRAIGHT, r.between(1, 65_536), 0),
             PARABOLA => segment(PARABOLA, r.between(8192, 131_072), r.below(2048)),
             _ => segment(BEND, 0, r.below(200)),
@@ -145,6 +152,14 @@ fn member(r: &mut Random) -> Vec<u64> {
         f.extend(age(hour, if r.one_in(3) { r.below(heaviest) } else { 0 }));
     }
     f
+}
+
+/// Makes the tendon as long as the slip reaches, or a tick shorter or longer, if document 02's W5 rules at the member's slip.
+fn end_where_the_set_does(r: &mut Random, paper: &Paper, f: &mut [u64]) {
+    let room = ROW_NUMBERS.max(SCRATCH_NUMBERS_OF_AGE) * MOST_AGES as usize;
+    if let Some(set) = paper.run(&Member(f.to_vec()), room, room).anchor_set {
+        f[Length.at()] = (set.affected_length() + r.below(3)).saturating_sub(1);
+    }
 }
 
 /// Puts some fields at or just past an end, or anywhere.
@@ -250,7 +265,7 @@ fn list_bits(r: &mut Random, f: &[u64]) -> Vec<u64> {
 fn room(r: &mut Random, numbers_of_age: usize, ages: u64) -> usize {
     let number = BYTES_OF_NUMBER as u64;
     let due = number * numbers_of_age as u64 * ages.min(MOST_AGES + 6);
-    let length = match r.below(10) {
+    let length = match r.below(20) {
         0 => due.saturating_sub(1),
         1 => due.saturating_sub(number),
         2 => due + r.below(number),
@@ -311,34 +326,90 @@ fn compare(what: &str, returned: u64, was: &Buffers, now: &Buffers, due: Result<
     }
 }
 
-/// How many cases gave each answer, and how many accepted ones have a gain, or a long duct.
+/// A case: an input's bytes, the buffers lent to its run, and what the papers give.
+struct Case {
+    bytes: Vec<u8>,
+    was: Buffers,
+    answer: Answer,
+}
+
+impl Case {
+    /// `input` gives the bytes of a member's fields, and what the papers read of them.
+    fn new(r: &mut Random, paper: &Paper, edges: &[(Field, u64, u64)], input: impl Fn(&mut Random, &[u64]) -> (Vec<u8>, Reading)) -> Self {
+        let mut f = member(r);
+        if r.one_in(8) {
+            end_where_the_set_does(r, paper, &mut f);
+        }
+        disturb(r, edges, &mut f);
+        let (bytes, reading) = input(r, &f);
+        let was = Buffers::new(r, f[Ages.at()]);
+        let room = |buffer: &[u8]| buffer.len() / BYTES_OF_NUMBER;
+        let answer = match reading {
+            // "A reply slice under 64 bytes gives 10 before all other checks"; the place is written nowhere.
+            _ if was.reply.len() < REPLY_BYTES => Answer::from((refused::BUFFER, 0)),
+            Ok(member) => paper.run(&member, room(&was.report), room(&was.scratch)),
+            Err(refusal) => Answer::from(refusal),
+        };
+        Case { bytes, was, answer }
+    }
+
+    /// Whether it comes to the slip with a path and with friction, where document 02's W5 rules, and the wedges do draw in: the drop at the
+    /// jack is above 0. So does what is accepted, or refused with 12 or 7 at the slip, or later; what is refused before the slip does not.
+    fn sets_along_duct(&self) -> bool {
+        self.answer.anchor_set.is_some_and(|set| set.drop_at_jack > 0)
+    }
+}
+
+/// How many cases gave each answer, how many accepted ones are of each kind below, and how many set their anchor along a duct.
 #[derive(Default)]
 struct Tally {
     answers: [usize; ANSWERS],
     gains: usize,
     long_ducts: usize,
+    slips_by_tendon_length: usize,
+    sets_along_duct: usize,
+    sets_that_die_out: usize,
+    sets_at_section: usize,
+    sets_that_leave_too_little: usize,
 }
 
 impl Tally {
-    fn count(&mut self, due: &Result<Run, Refusal>) {
+    fn count(&mut self, case: &Case) {
+        let (due, sets) = (&case.answer.due, case.sets_along_duct());
+        let accepted = |kind: &dyn Fn(&Run) -> bool| usize::from(due.as_ref().is_ok_and(kind));
         self.answers[due.as_ref().err().map_or(0, |&(number, _)| number as usize)] += 1;
-        self.gains += usize::from(due.as_ref().is_ok_and(Run::gains));
-        self.long_ducts += usize::from(due.as_ref().is_ok_and(Run::long_duct));
+        self.gains += accepted(&Run::gains);
+        self.long_ducts += accepted(&Run::long_duct);
+        self.slips_by_tendon_length += accepted(&|run| !sets && run.has_duct() && run.slips_at_section());
+        self.sets_along_duct += usize::from(sets);
+        self.sets_that_die_out += accepted(&|run| sets && !run.slips_at_section());
+        self.sets_at_section += accepted(&|run| sets && run.slips_at_section());
+        self.sets_that_leave_too_little += usize::from(sets && *due == Err((refused::STRESS, 0)));
     }
 
-    /// The tests would show little if an answer, a gain or a long duct came up hardly ever, but for the refusal `unseen`, which cannot.
+    /// The tests would show little if an answer or a kind came up hardly ever, but for the refusal `unseen`, which cannot.
     fn hold(&self, unseen: Option<u64>) {
         let (accepted, refused) = (self.answers[0], &self.answers[1..]);
-        println!("accepted {accepted}, with a gain {}, with a long duct {}, refused {refused:?}", self.gains, self.long_ducts);
+        println!("accepted {accepted}, refused {refused:?}");
         for (number, count) in self.answers.iter().enumerate().filter(|&(number, _)| Some(number as u64) != unseen) {
             assert!(*count >= LEAST_COUNT, "answer {number} came up {count} times");
         }
-        assert!(self.gains >= LEAST_COUNT, "a gain came up {} times", self.gains);
-        assert!(self.long_ducts >= LEAST_COUNT, "a long duct came up {} times", self.long_ducts);
+        for (kind, count, least) in [
+            ("accepted with a gain", self.gains, LEAST_COUNT),
+            ("accepted with a long duct", self.long_ducts, LEAST_COUNT),
+            ("accepted with a duct but no friction or no length, and a slip", self.slips_by_tendon_length, LEAST_COUNT),
+            ("set along a duct", self.sets_along_duct, CASES / CASES_TO_A_SET),
+            ("accepted with a set that dies out before the section", self.sets_that_die_out, LEAST_COUNT),
+            ("accepted with a set that reaches the section", self.sets_at_section, LEAST_COUNT),
+            ("set along a duct and refused with 7 before the ages", self.sets_that_leave_too_little, LEAST_COUNT),
+        ] {
+            println!("{kind}: {count} of {CASES}");
+            assert!(count >= least, "{kind}: {count} of {CASES}");
+        }
     }
 }
 
-/// Runs every case through an entry: `input` gives its bytes, and what the paper reads of them.
+/// Runs every case through an entry. One in four is made anew until it sets along a duct; others may as well.
 fn run_cases(
     seed: u64,
     unseen: Option<u64>,
@@ -349,18 +420,15 @@ fn run_cases(
     let edges = edges();
     let mut r = Random(seed);
     let mut tally = Tally::default();
-    for case in 0..CASES {
-        let mut f = member(&mut r);
-        disturb(&mut r, &edges, &mut f);
-        let (bytes, reading) = input(&mut r, &f);
-        let was = Buffers::new(&mut r, f[Ages.at()]);
-        let mut now = was.clone();
-        let returned = entry(&bytes, &mut now);
-        let due = reading.and_then(|member| {
-            paper.run(&member, was.report.len() / BYTES_OF_NUMBER, was.scratch.len() / BYTES_OF_NUMBER)
-        });
-        tally.count(&due);
-        compare(&format!("case {case}"), returned, &was, &now, due);
+    for number in 0..CASES {
+        let mut case = Case::new(&mut r, &paper, &edges, &input);
+        while number % CASES_TO_A_SET == 0 && !case.sets_along_duct() {
+            case = Case::new(&mut r, &paper, &edges, &input);
+        }
+        let mut now = case.was.clone();
+        let returned = entry(&case.bytes, &mut now);
+        tally.count(&case);
+        compare(&format!("case {number}"), returned, &case.was, &now, case.answer.due);
     }
     tally.hold(unseen);
 }
@@ -402,12 +470,12 @@ fn run_with_slip(card: &[u8], slip: String, was: &Buffers) -> (u64, Buffers) {
     (stratelyn::run_card_bytes(&card, &mut now.report, &mut now.scratch, &mut now.reply), now)
 }
 
-/// A blank slip gives what its number of ticks gives where it is written, and at times not what older wedges give: other losses, or 7.
+/// A blank slip gives what its number of ticks gives where it is written, and at times not what older wedges give: other losses, 7, or 12.
 #[test]
 fn blank_slips() {
     let written = |slip: u64| format!("{slip:COLUMNS$}");
     let mut r = Random(0x5EED_0003_511B);
-    let (mut other_losses, mut too_little) = (0, 0);
+    let (mut other_losses, mut too_little, mut too_far) = (0, 0, 0);
     for case in 0..CASES {
         let f = member(&mut r);
         let card = lines_of(&mut r, &f).into_bytes();
@@ -417,7 +485,10 @@ fn blank_slips() {
         let older = run_with_slip(&card, written(OLDER_SLIP), &was);
         other_losses += usize::from(blank.0 == 0 && older.0 == 0 && blank != older);
         too_little += usize::from(blank.0 == refused::STRESS && older.0 == 0);
+        too_far += usize::from(blank.0 == refused::ANCHOR_SET && older.0 == 0);
     }
-    println!("blank slips: other losses than older wedges' {other_losses}, 7 where these pass {too_little}");
-    assert!(other_losses.min(too_little) >= LEAST_COUNT, "other losses came up {other_losses} times, 7 {too_little} times");
+    for (what, count) in [("other losses than older wedges'", other_losses), ("7 where these pass", too_little), ("12 there", too_far)] {
+        println!("blank slips, {what}: {count}");
+        assert!(count >= LEAST_COUNT, "blank slips, {what}: {count}");
+    }
 }

@@ -7,9 +7,11 @@ use lib.ListN.{getD}
 use native.Mathlib.Nat.{pow-le-pow-left, le-trans}
 use native.Mathlib.Omega.{arith}
 use borrow.Author.Needs.{needs}
-use Rattle.logarithm.specs.Logarithm.{power, lastThreshold, largestUpTo, logarithm}
+use Rattle.logarithm.specs.Largest.{largestUpTo}
+use Rattle.logarithm.specs.Logarithm.{power, lastThreshold, reaches, logarithm}
 use Rattle.logarithm.specs.Table.{IsTable}
 use Rattle.logarithm.proofs.Largest.{no-more, no-less, cut}
+use Rattle.logarithm.proofs.Laws.{reached as is-reached, beyond as lies-beyond}
 use Rattle.logarithm.proofs.reading.Statement.{statement}
 use Rattle.logarithm.proofs.reading.Tie as tie
 
@@ -17,7 +19,7 @@ record Between (hour reached beyond : ℕ) : Type 0 where
   order : reached < beyond
   end : beyond ≤ suc lastThreshold
   least : reached ≤ logarithm hour
-  most : logarithm hour ≡ largestUpTo (beyond - 1) hour
+  most : logarithm hour ≡ largestUpTo (beyond - 1) (reaches hour)
 
 begins : (hour : ℕ) → Between hour 0 1537
 unfolding logarithm
@@ -31,8 +33,8 @@ module _ (hour reached beyond middle : ℕ) (b : Between hour reached beyond) (a
     order = below;
     end = b .end;
     most = b .most;
-    least = no-less lastThreshold middle hour (let e = b .end in omega arith)
-        (le-trans (t .threshold middle (let e = b .end in omega arith) .reached) (pow-le-pow-left h power));
+    least = no-less (reaches hour) lastThreshold middle (let e = b .end in omega arith)
+        (is-reached hour middle (le-trans (t .threshold middle (let e = b .end in omega arith) .reached) (pow-le-pow-left h power)));
   }
 
   down : hour < getD thresholds middle 0 → Between hour reached middle
@@ -40,9 +42,10 @@ module _ (hour reached beyond middle : ℕ) (b : Between hour reached beyond) (a
     order = above;
     end = let e = b .end in omega arith;
     least = b .least;
-    most = b .most ∙ cut (beyond - 1) (middle - 1) hour (omega arith)
+    most = b .most ∙ cut (reaches hour) (beyond - 1) (middle - 1) (omega arith)
+        (lies-beyond hour (middle - 1)
         (let e : suc (middle - 1) ≡ middle = omega arith in
-        rw e (t .threshold middle (let e = b .end in omega arith) .smallest hour h));
+        rw e (t .threshold middle (let e = b .end in omega arith) .smallest hour h)));
   }
 
 ends : (hour reached beyond : ℕ) → Between hour reached beyond → beyond - reached ≤ 1 → reached ≡ logarithm hour
@@ -50,8 +53,8 @@ ends hour reached beyond b h =
     let o = b .order in
     let l = b .least in
     let e : beyond - 1 ≡ reached = omega arith in
-    let m : logarithm hour ≡ largestUpTo reached hour = rw e at (b .most) in
-    let n = no-more reached hour in
+    let m : logarithm hour ≡ largestUpTo reached (reaches hour) = rw e at (b .most) in
+    let n = no-more (reaches hour) reached in
     omega arith
 
 abbrev Inv-loop : tie.InvT-loop

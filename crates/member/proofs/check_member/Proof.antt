@@ -36,12 +36,13 @@ enum-known-friction c = search needs
 check-below-duct-requires : tie.Need-check-below-duct-requires
 check-below-duct-requires c κs =
     let start = c .before .before .before .before in
+    let args = start .args in
     let q = quantities start in
+    let known = to-duct q [] (frictionOf q) (ducted (c .before)) .fields in
     record {
       readable = start .pre;
-      head =
-          head-alone (start .args .segments) (start .args .ages) (start .args .fields .now)
-          (to-duct q [] (frictionOf q) (ducted (c .before)) .fields);
+      head = head-alone (args .segments) (args .ages) (args .fields .now) known;
+      segments-fit = known .segments;
       friction-is = given-is (codesToDuct q) (frictionOf q) (ducted (c .before));
     }
 

@@ -3,7 +3,7 @@ use mathlib.Core.Path.{_≡_, sym, ap, _∙_}
 use mathlib.Core.Bool.{Bool}
 use mathlib.Core.List.{List}
 use Prim.Native.Nat.{ℕ}
-use lib.ListN.{length, drop, length-drop}
+use lib.ListN.{length, drop}
 use Rattle.fields.specs.Quantities.{headFields, Quantities, quantitiesOf, segmentsFrom, isPretensioned}
 use Rattle.fields.specs.Outcomes.{OrRefusal, Gives}
 use Rattle.fields.specs.declared.refusal.Refusal.the-variants.{Codes, Ranges, Hours, Duct}
@@ -12,7 +12,7 @@ use Rattle.checks.specs.Rows.{firstFailing, checkedBy, codes, ranges, hours, du
 use Rattle.checks.proofs.Cascade.{row-fails, row-holds, none-left}
 use Rattle.member.specs.Constants.{pathFriction}
 use Rattle.member.specs.Member.{frictionOf, codesToDuct}
-use Rattle.member.proofs.Laws.{FieldsFit, fields-fit, head-alone}
+use Rattle.member.proofs.Laws.{FieldsFit, fields-fit, path-fits, head-alone}
 use native.Mathlib.Omega.{arith}
 use borrow.Author.Needs.{needs}
 use Rattle.member.proofs.check_to_duct.Statement.{statement}
@@ -116,13 +116,12 @@ path-friction-requires c κs =
     let read = c .before .before .from-element .ensures in
     let passed = c .before .before .before .before in
     let start = start-of passed in
-    let head = head-alone (start .args .segments) (start .args .ages) (start .args .fields .now) (known passed) in
+    let args = start .args in
+    let head = head-alone (args .segments) (args .ages) (args .fields .now) (known passed) in
     record {
-      room = rw (read, length-drop) (omega arith);
-      segments-most = start .pre .segments-most;
+      path = rw read (path-fits (args .segments) (args .ages) (args .fields .now) (omega arith) (start .pre) (known passed .segments));
       wobble-most = head .wobble-most;
       curvature-most = head .curvature-most;
-      segments-fit = rw read (known passed .segments);
     }
 
 element-copy-out-pretensioned : tie.Need-element-copy-out-pretensioned

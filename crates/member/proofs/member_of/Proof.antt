@@ -6,13 +6,15 @@ use Rattle.coefficient.specs.declared.codes.Steel.{Steel}
 use Rattle.coefficient.specs.declared.clocks.MemberHours.{MemberHours}
 use Rattle.fields.specs.Quantities.{headFields, perSegment, Quantities, quantitiesOf}
 use Rattle.fields.proofs.Laws.{ages-length}
-use Rattle.member.specs.Member.{hoursOf, steelOf, frictionOf, kappaOf, creepOf, shrinkageOf, memberOf}
+use Rattle.member.specs.Member.{hoursOf, steelOf, frictionOf, pathLengthOf, kappaOf, creepOf, shrinkageOf, memberOf}
+use Rattle.member.proofs.Laws.{path-fits}
+use native.Mathlib.Omega.{arith}
 use borrow.Author.Needs.{needs}
 use Rattle.member.proofs.member_of.Statement.{statement}
 use Rattle.member.proofs.member_of.Tie as tie
 
-made : (q : Quantities) {hours : MemberHours} {steel : Steel} {friction kappa creep shrinkage ages : ℕ}
-    → hours ≡ hoursOf q → steel ≡ steelOf (q .steel) → friction ≡ frictionOf q → kappa ≡ kappaOf q → creep ≡ creepOf q
+made : (q : Quantities) {hours : MemberHours} {steel : Steel} {friction path-length kappa creep shrinkage ages : ℕ}
+    → hours ≡ hoursOf q → steel ≡ steelOf (q .steel) → friction ≡ frictionOf q → path-length ≡ pathLengthOf q → kappa ≡ kappaOf q → creep ≡ creepOf q
     → shrinkage ≡ shrinkageOf q → length (q .ages) ≡ ages
     → record {
       hours = hours;
@@ -29,13 +31,17 @@ made : (q : Quantities) {hours : MemberHours} {steel : Steel} {friction kappa cr
       eccentricity = q .eccentricity;
       «own_weight_moment» = q .ownWeightMoment;
       friction = friction;
+      «path_length» = path-length;
       kappa = kappa;
       creep = creep;
       shrinkage = shrinkage;
       ages = ages;
     } ≡ memberOf q
 unfolding memberOf
-made q h st f k u sh a = rw (h, st, f, k, u, sh, a)
+made q h st f l k u sh a = rw (h, st, f, l, k, u, sh, a)
+
+abbrev read-of : tie.After-from-element → tie.After-steel-of
+read-of c = c .before .before .before .before .before .before .before .before .before .before .before .before .before
 
 hours-of-requires : tie.Need-hours-of-requires
 hours-of-requires c κs = search needs
@@ -79,18 +85,28 @@ element-copy-out-t41 c = search needs
 element-copy-out-t44 : tie.Need-element-copy-out-t44
 element-copy-out-t44 c = search needs
 
+from-element-requires : tie.Need-from-element-requires
+from-element-requires c κs = search needs
+
+path-length-requires : tie.Need-path-length-requires
+path-length-requires c κs =
+    let start = read-of c .before .before .before in
+    rw (c .from-element .ensures)
+    (path-fits (start .args .segments) (start .args .ages) (start .args .fields .now) (omega arith) (start .pre .readable)
+    (start .pre .segments-fit))
+
 shrinkage-of-requires : tie.Need-shrinkage-of-requires
 shrinkage-of-requires c κs = search needs
 
 returns : tie.Need-returns
 returns c =
-    let read = c .before .before .before .before .before .before .before .before .before .before .before .before in
+    let read = read-of (c .before .before) in
     let start = read .before .before .before in
     let fields = start .args .fields .now in
     let segments = start .args .segments in
     let ages = start .args .ages in
     made (quantitiesOf segments ages fields) (read .before .before .hours-of .ensures) (read .steel-of .ensures)
-    (start .pre .friction-is) (start .pre .kappa-is) (start .pre .creep-is) (c .shrinkage-of .ensures)
+    (start .pre .friction-is) (rw (c .before .before .from-element .ensures) at (c .before .path-length .ensures)) (start .pre .kappa-is) (start .pre .creep-is) (c .shrinkage-of .ensures)
     (ages-length ages (drop (headFields + perSegment * segments) fields))
 
 pub member-of-spec : {M : Type 1} → statement M
@@ -111,5 +127,7 @@ member-of-spec =
     element-copy-out-t38
     element-copy-out-t41
     element-copy-out-t44
+    from-element-requires
+    path-length-requires
     shrinkage-of-requires
     returns)

@@ -188,7 +188,8 @@ pub mod refused {
     pub const DOUBLE: u64 = 9;
     pub const BUFFER: u64 = 10;
     pub const OVERSTRESS: u64 = 11;
-    pub const LAST: u64 = OVERSTRESS;
+    pub const ANCHOR_SET: u64 = 12;
+    pub const LAST: u64 = ANCHOR_SET;
 }
 
 /// A card or a list as it is read: all its fields, by their numbers less 1.
@@ -226,16 +227,18 @@ pub type Reading = Result<Member, Refusal>;
 /// The losses before the ages and the stress after them; and creep, shrinkage, relaxation, stress and gain of an age.
 pub const BEFORE_NUMBERS: usize = 6;
 pub const ROW_NUMBERS: usize = 5;
+const BEFORE_SLIP: usize = 1;
 const ROW_STRESS: usize = 3;
 const ROW_GAIN: usize = 4;
 
 /// Numbers of scratch that an age needs.
 pub const SCRATCH_NUMBERS_OF_AGE: usize = ROW_NUMBERS;
 
-/// An accepted run, and the X of its path.
+/// An accepted run, and the X and the length of its path, this in ticks of foot.
 #[derive(Debug, Clone, PartialEq)]
 pub struct Run {
     pub x: u128,
+    pub path_length: u128,
     pub before: [u64; BEFORE_NUMBERS],
     pub rows: Vec<[u64; ROW_NUMBERS]>,
 }
@@ -255,10 +258,82 @@ impl Run {
     pub fn long_duct(&self) -> bool {
         self.x > T
     }
+
+    /// Whether there is a duct: a path with friction or a length.
+    pub fn has_duct(&self) -> bool {
+        self.x > 0 || self.path_length > 0
+    }
+
+    /// Whether the slip takes stress at the section.
+    pub fn slips_at_section(&self) -> bool {
+        self.before[BEFORE_SLIP] > 0
+    }
+}
+
+/// What the papers give for a member: a run or its refusal; and the anchor set, if the run came to the slip and document 02's W5 ruled
+/// there.
+#[derive(Debug, Clone, PartialEq)]
+pub struct Answer {
+    pub due: Result<Run, Refusal>,
+    pub anchor_set: Option<AnchorSet>,
+}
+
+impl From<Refusal> for Answer {
+    /// Refused before the slip.
+    fn from(refusal: Refusal) -> Self {
+        Answer { due: Err(refusal), anchor_set: None }
+    }
+}
+
+// ---- the anchor set
+
+/// The anchor set that dies out along the duct, of document 02's W5: P, d and Z. The length is in ticks of foot, stresses in ticks of psi.
+#[derive(Debug, Clone, Copy, PartialEq)]
+pub struct AnchorSet {
+    path_length: u128,
+    friction: u128,
+    pub drop_at_jack: u128,
+}
+
+impl AnchorSet {
+    /// The set along a path, with Es in psi and the slip in ticks; none "where d or P is 0".
+    fn along(path_length: u128, friction: u128, es: u128, slip: u128) -> Option<Self> {
+        if friction == 0 || path_length == 0 {
+            return None;
+        }
+        // "Z²·P at most 4·d·Es·slip", with P and the slip in ticks of inch on both sides.
+        let drop_at_jack = largest_root(INCHES_OF_FOOT * path_length, 4 * friction * (es * TICKS) * slip);
+        Some(AnchorSet { path_length, friction, drop_at_jack })
+    }
+
+    /// "Z − 2d, or 0 where that is negative".
+    fn drop_at_section(&self) -> u128 {
+        self.drop_at_jack.saturating_sub(2 * self.friction)
+    }
+
+    /// Whether the affected length Z·P/(2d), unrounded, passes a length.
+    fn passes(&self, length: u128) -> bool {
+        self.drop_at_jack * self.path_length > 2 * self.friction * length
+    }
+
+    /// The affected length, rounded down.
+    pub fn affected_length(&self) -> u64 {
+        (self.drop_at_jack * self.path_length / (2 * self.friction)) as u64
+    }
+}
+
+/// The largest whole number z with `times`·z² at most `most`, found bit by bit from the highest that it can have.
+fn largest_root(times: u128, most: u128) -> u128 {
+    let bits = (u128::BITS - most.leading_zeros()).div_ceil(2);
+    (0..bits).rev().map(|bit| 1 << bit).fold(0, |root, more| {
+        let tried = root + more;
+        if times * tried * tried <= most { tried } else { root }
+    })
 }
 
 const T: u128 = 1 << 24;
 pub const TICKS: u128 = 1024;
+const INCHES_OF_FOOT: u128 = 12;
 const MILLION: u128 = 1_000_000;
 const DAY: u128 = 24;
 
@@ -444,7 +519,15 @@ impl Paper {
         (self.thresholds.partition_point(|&t| u128::from(t) <= hour) - 1) as u128
     }
 
-    pub fn run(&self, member: &Member, report: usize, scratch: usize) -> Result<Run, Refusal> {
+    /// The run of a member with so many numbers of room in report and scratch.
+    pub fn run(&self, member: &Member, report: usize, scratch: usize) -> Answer {
+        let mut anchor_set = None;
+        let due = self.steps(member, report, scratch, &mut anchor_set);
+        Answer { due, anchor_set }
+    }
+
+    /// The checks and the steps. What rules at the slip stays in `anchor_set`, also if the run is refused there or later.
+    fn steps(&self, member: &Member, report: usize, scratch: usize, anchor_set: &mut Option<AnchorSet>) -> Result<Run, Refusal> {
         let f = |field: Field| member.field(field);
         let (segments, ages) = (member.segments(), member.ages());
         let code = |field: Field| member.0[field.at()];
@@ -502,9 +585,10 @@ impl Paper {
         }
 
         check(kind == POST_TENSIONED || segments == 0, refused::DUCT, 1)?;
-        let mut x = 0;
+        let (mut x, mut path_length) = (0, 0);
         for i in 0..segments {
             let (length, rise) = (member.segment(i, OfSegment::Length), member.segment(i, OfSegment::Rise));
+            path_length += length;
             x += f(Wobble) * length * T / (TICKS * MILLION);
             x += match segment_kind(i) {
                 PARABOLA => f(Curvature) * 2 * rise * T / (length * MILLION),
@@ -564,7 +648,14 @@ impl Paper {
         let jacked = f(JackingStress) * TICKS;
         let friction = jacked - jacked * friction_factor(x) / T;
         let mut stress = lose(jacked, friction, 0)?;
-        let slip = es * f(Slip) * TICKS / (12 * f(Length));
+        *anchor_set = AnchorSet::along(path_length, friction, es, f(Slip));
+        let slip = match anchor_set {
+            Some(set) => {
+                check(!set.passes(f(Length)), refused::ANCHOR_SET, Length.number())?;
+                set.drop_at_section()
+            }
+            None => es * f(Slip) * TICKS / (INCHES_OF_FOOT * f(Length)),
+        };
         stress = lose(stress, slip, 0)?;
         let deflector = f(DeflectorLoss) * TICKS;
         stress = lose(stress, deflector, 0)?;
@@ -591,6 +682,6 @@ impl Paper {
             rows.push([creep, shrinks, relaxes, stress, gain].map(|v| v as u64));
             (start, moments) = (hour, moments_after);
         }
-        Ok(Run { x, before, rows })
+        Ok(Run { x, path_length, before, rows })
     }
 }

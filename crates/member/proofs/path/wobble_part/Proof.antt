@@ -4,8 +4,8 @@ use native.Mathlib.Nat.{mul-le-mul}
 use Rattle.fields.specs.Limits.{range, mostLength}
 use native.Mathlib.Omega.{arith}
 use borrow.Author.Needs.{needs}
-use Rattle.member.proofs.friction.wobble_part.Statement.{statement}
-use Rattle.member.proofs.friction.wobble_part.Tie as tie
+use Rattle.member.proofs.path.wobble_part.Statement.{statement}
+use Rattle.member.proofs.path.wobble_part.Tie as tie
 
 product : (c : tie.Start) → c .args .wobble * c .args .length ≤ range .wobble .high * mostLength
 product c = mul-le-mul (c .pre .factor-most) (c .pre .segment-fits .length-most)

@@ -1,10 +1,10 @@
-// X, the friction of a path.
+// X, the friction of a path, and its length.
 ghost use mathlib.Core.Path.{_≡_};
 ghost use Rattle.fields.specs.Quantities.{segmentsFrom};
 ghost use Rattle.fields.specs.Limits.{range};
 ghost use Rattle.checks.specs.Places.{segment};
-ghost use Rattle.member.specs.Constants.{wobblePart, curvaturePart, pathFriction};
-ghost use Rattle.member.specs.Facts.{PartFits, PathFits, mostPart, AtMost};
+ghost use Rattle.member.specs.Constants.{wobblePart, curvaturePart, pathFriction, pathLength};
+ghost use Rattle.member.specs.Facts.{PartFits, PathFits, FrictionFits, mostPart, AtMost};
 use fields::layout::PER_SEGMENT;
 use fields::places;
 use ticks::T;
@@ -34,7 +34,7 @@ fn curvature_part(curvature: u64, kind: u64, length: u64, rise: u64) -> u64
 
 // X of the segments with which `part` begins.
 pub fn path_friction(part: &[u64], segments: usize, wobble: u64, curvature: u64) -> u64
-    requires { ⌜ PathFits wobble curvature segments (now part) ⌝ }
+    requires { ⌜ FrictionFits wobble curvature segments (now part) ⌝ }
     ensures { λ r. ⌜ r ≡ pathFriction wobble curvature (segmentsFrom segments (now (part .entry))) ⌝ }
 {
     let mut friction = 0u64;
@@ -49,4 +49,18 @@ pub fn path_friction(part: &[u64], segments: usize, wobble: u64, curvature: u64)
         segment += 1;
     }
     friction
+}
+
+// The length of the segments with which `part` begins.
+pub fn path_length(part: &[u64], segments: usize) -> u64
+    requires { ⌜ PathFits segments (now part) ⌝ }
+    ensures { λ r. ⌜ r ≡ pathLength (segmentsFrom segments (now (part .entry))) ⌝ }
+{
+    let mut length = 0u64;
+    let mut segment = 0usize;
+    while segment < segments {
+        length += part[PER_SEGMENT * segment + 1];
+        segment += 1;
+    }
+    length
 }

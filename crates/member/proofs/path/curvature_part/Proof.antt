@@ -8,8 +8,8 @@ use Rattle.fields.specs.Limits.{range, mostAngle, mostRise}
 use Rattle.member.specs.Constants.{million}
 use native.Mathlib.Omega.{arith}
 use borrow.Author.Needs.{needs}
-use Rattle.member.proofs.friction.curvature_part.Statement.{statement}
-use Rattle.member.proofs.friction.curvature_part.Tie as tie
+use Rattle.member.proofs.path.curvature_part.Statement.{statement}
+use Rattle.member.proofs.path.curvature_part.Tie as tie
 
 bend-product : (c : tie.Then1) → c .before .args .curvature * c .before .args .rise ≤ range .curvature .high * mostAngle
 bend-product c = mul-le-mul (c .before .pre .factor-most) (c .before .pre .segment-fits .bend-angle (c .if1 .taken))
