@@ -9,7 +9,7 @@ mod paper;
 
 use paper::Field::*;
 use paper::{age, in_ticks, lines, read_card, read_list, segment, Field, Member, Paper, Refusal, Run};
-use paper::{BEND, COLUMNS, HEAD_FIELDS, LIFE, MOST_AGES, MOST_SEGMENTS, PARABOLA, STRAIGHT, TICKS};
+use paper::{BEND, BLANK_SLIP, COLUMNS, HEAD_FIELDS, LIFE, MOST_AGES, MOST_SEGMENTS, PARABOLA, STRAIGHT, TICKS};
 use std::hint::black_box;
 use std::time::Instant;
 use stratelyn::{BYTES_PER_AGE, REPLY_BYTES};
@@ -23,12 +23,14 @@ fn sample() -> Member {
     read_card(include_bytes!("../../crates/report/stdin")).expect("the sample is accepted")
 }
 
-/// A member with the most segments and ages, and a long duct: its X is above T.
+/// A member with the most segments and ages, and a long duct, along which its slip dies out: its X is above T.
 fn large() -> Member {
     let Member(mut f) = sample();
     f.truncate(HEAD_FIELDS);
     let mut set = |field: Field, number: u64| f[field.at()] = number;
     set(JackingStress, 180_000);
+    set(Slip, BLANK_SLIP);
+    set(Length, 2_097_152);
     set(Inertia, 1 << 26);
     set(Eccentricity, 2048);
     set(OwnWeightMoment, 1 << 20);
@@ -125,7 +127,7 @@ fn main() {
                     };
                     let read = if kind == "card" { read_card(&text) } else { read_list(&numbers(&bytes)) };
                     let numbers_of_report = REPORT_BYTES / BYTES_OF_NUMBER;
-                    let run = read.and_then(|member| paper.run(&member, numbers_of_report, numbers_of_report));
+                    let run = read.and_then(|member| paper.run(&member, numbers_of_report, numbers_of_report).due);
                     answer(run, &mut report, &mut reply)
                 }));
             }
