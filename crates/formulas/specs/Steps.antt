@@ -22,20 +22,20 @@ frictionLoss stress friction = stress - stressLeft stress friction
 abbrev pub diesOut : (d pathLength : ℕ) → Bool
 diesOut d pathLength = ltb 0 d && ltb 0 pathLength
 
--- "Z²·P at most 4·d·Es·slip; Z, d and Es are in ticks of psi, the slip in inches". P, 12 inches for each foot of the path, and the slip
--- are both in ticks of inch here, so that each side is 1,024 times the paper's.
-abbrev pub spreads : (d es slip pathLength z : ℕ) → Bool
-spreads d es slip pathLength z = leb (z * z * (12 * pathLength)) (4 * d * (es * ticksPerUnit) * slip)
+-- whether the slip covers a drop of z at the jack: "Z²·P at most 4·d·Es·slip; Z, d and Es are in ticks of psi, the slip in inches". P, 12
+-- inches for each foot of the path, and the slip are both in ticks of inch here, so that each side is 1,024 times the paper's.
+abbrev pub slipCovers : (d es slip pathLength z : ℕ) → Bool
+slipCovers d es slip pathLength z = leb (z * z * (12 * pathLength)) (4 * d * (es * ticksPerUnit) * slip)
 
--- "let Z be the largest whole number" of these, said by its two squares: it is one, and the next is not. It is the drop at the jack.
+-- "let Z be the largest whole number", by its two squares: the slip covers it, and not the next
 pub record IsDropAtJack (d es slip pathLength z : ℕ) : Type 0 where
-  pub spreads-so : spreads d es slip pathLength z ≡ true
-  pub next-does-not : spreads d es slip pathLength (suc z) ≡ false
+  pub covered : slipCovers d es slip pathLength z ≡ true
+  pub next-not-covered : slipCovers d es slip pathLength (suc z) ≡ false
 
--- Z as a number: none of these is larger than the right side
+-- Z itself, which is such a number by the law `is-drop`, and no other is by `one-drop`; none above the right side is covered
 unfoldable pub dropAtJack : (d es slip pathLength : ℕ) → ℕ
 unfolding largestUpTo
-dropAtJack d es slip pathLength = largestUpTo (4 * d * (es * ticksPerUnit) * slip) (spreads d es slip pathLength)
+dropAtJack d es slip pathLength = largestUpTo (4 * d * (es * ticksPerUnit) * slip) (slipCovers d es slip pathLength)
 
 -- "the affected length Z·P/(2d) passes the tendon length, both unrounded"
 abbrev pub passesTendon : (z d pathLength length : ℕ) → Bool

@@ -10,7 +10,7 @@ use crate::difference;
 use crate::wide;
 use ticks::TICKS_PER_UNIT;
 
-// Z² times 12 inches a foot is at most 4·d·Es·slip: so Z² times 3 at most d·Es·slip.
+// Both sides of Z²·P <= 4·d·Es·slip over 4: this many inches are left of each foot of P.
 const QUARTER_OF_A_FOOT: u64 = INCHES_TO_A_FOOT / 4;
 
 // The root of 1,024.
@@ -50,14 +50,11 @@ fn root_of_ticks(whole: u64, parts: u64) -> u64
 {
     let coarse = further(0, whole, ROOT_LIMIT);
     let root = ROOT_OF_TICKS * coarse;
-    root
-        + further(
-            root,
-            TICKS_PER_UNIT * (whole - coarse * coarse) + parts,
-            ROOT_OF_TICKS,
-        )
+    let rest = TICKS_PER_UNIT * (whole - coarse * coarse) + parts;
+    root + further(root, rest, ROOT_OF_TICKS)
 }
 
+// Z. Its square is 1024·d·Es·slip/(3·path) at the most, of up to 75 bits; without the 1,024 it fits 64.
 pub fn drop_at_jack(friction: u64, es: u64, slip: u64, path_length: u64) -> u64
     requires { ⌜ DropFits friction es slip «path_length» ⌝ }
     ensures { λ r. ⌜ r ≡ dropAtJack friction es slip «path_length» ⌝ }

@@ -1,6 +1,7 @@
--- Demand 3 of document 01, proved of every accepted run. Along the path both stresses come from the jacking stress, slip is one step
--- more, and the steps after slip keep near from there on; the two tolerances are one lemma, at the allowances of 1 and of 40 psi a
--- step. That the stress rises neither from the jack to the path's end nor from there to the ages, and at these by no more than its gain,
+-- Demand 3 of document 01, proved of every accepted run. Along the path both stresses come from the jacking stress. Slip over the tendon
+-- is one step more; where it dies out along the path both go on from the core's stress, and the count begins anew. The steps after slip
+-- keep near from there on, whatever is counted at slip; the two tolerances are one lemma, at the allowances of 1 and of 40 psi a step. That
+-- the stress rises neither from the jack to the path's end nor from there to the ages, and at these by no more than its gain,
 -- that the losses and the last stress add up to the jacking stress and the gains, and that the numbers are those reported, is read off the
 -- run. Assumes nothing.
 use mathlib.Core.Path.{_≡_, refl, subst}
@@ -40,7 +41,8 @@ use Rattle.tolerance.proofs.Concrete.{highestStress}
 use Rattle.tolerance.proofs.Bounds.{low, low-top}
 use Rattle.tolerance.proofs.Allowance.{Allowance, narrow-allowance, wide-allowance}
 use Rattle.tolerance.proofs.Chains.{Chain, chain-at, chain-lengths, each-length-then, each-at, each-then}
-use Rattle.tolerance.proofs.Run.{Began, AgesRun, run, slips-over-the-tendon, slips-exactly, ages-rise, ages-close-up, ages-end, rows-count, stresses-count}
+use Rattle.tolerance.proofs.Run.{Began, AgesRun, run, slips-over-the-tendon, slips-exactly, ages-rise, ages-close-up, ages-end}
+use Rattle.tolerance.proofs.Run.{rows-count, stresses-count}
 use Rattle.tolerance.proofs.Distance.{slip-keeps-distance, deflector-keeps-distance}
 use Rattle.tolerance.proofs.Near.{slipError, after-slip-near}
 use Rattle.tolerance.proofs.Closeness.{step-close, deflected, after-slip-close}
@@ -63,7 +65,7 @@ module _ {q : Quantities} {report scratch : ℕ} (facts : Facts q report scratch
   along j = ticksAlong q (take j (q .path))
 
   count : length (coreStresses q given) ≡ stepsOf q
-  count = omega (arith, each-length-then along (length (q .path)) rest, stresses-count (given .rows), rows-count ran)
+  count = omega (arith, each-length-then along segments rest, stresses-count (given .rows), rows-count ran)
 
   -- ---- near after every step
 
@@ -73,10 +75,10 @@ module _ {q : Quantities} {report scratch : ℕ} (facts : Facts q report scratch
   part-fits : (j : ℕ) → SegmentsFit (take j (q .path))
   part-fits j = segments-fit-take j (facts .segments-fit)
 
-  part-count : (j : ℕ) → j ≤ length (q .path) → length (take j (q .path)) ≡ j
+  part-count : (j : ℕ) → j ≤ segments → length (take j (q .path)) ≡ j
   part-count j h = rw length-take (min-eq-left h)
 
-  part-few : (j : ℕ) → j ≤ length (q .path) → length (take j (q .path)) ≤ mostSegments
+  part-few : (j : ℕ) → j ≤ segments → length (take j (q .path)) ≤ mostSegments
   part-few j h = rw (part-count j h) (le-trans h few-segments)
 
   part-most : (j : ℕ) → pathFriction (q .wobble) (q .curvature) (take j (q .path)) ≤ mostFriction
@@ -96,72 +98,75 @@ module _ {q : Quantities} {report scratch : ℕ} (facts : Facts q report scratch
     segment-covered : pathError 1 ≤ step
     segment-covered = let covers = allowed .covers in omega arith
 
-    slip-covered : (segments : ℕ) → slipError + pathError segments ≤ suc segments * step
-    slip-covered segments = omega (arith, mul-le-mul-left (suc segments) segment-covered)
+    slip-covered : slipError + pathError segments ≤ suc segments * step
+    slip-covered = omega (arith, mul-le-mul-left (suc segments) segment-covered)
 
     -- after the first j segments
-    along-close : (j : ℕ) → j ≤ length (q .path) → Within (whole (pathError j)) (whole (along j)) (stressAlong choice q j)
+    along-close : (j : ℕ) → j ≤ segments → Within (whole (pathError j)) (whole (along j)) (stressAlong choice q j)
     along-close j h =
         rw (part-count j h) at
         (path-close q (take j (q .path)) (part-fits j) (part-few j h) (part-most j) jacked-low (factors j h))
 
-    along-path : (j : ℕ) → j < length (q .path) → Within (whole (suc j * step)) (whole (along (suc j))) (stressAlong choice q (suc j))
+    along-path : (j : ℕ) → j < segments → Within (whole (suc j * step)) (whole (along (suc j))) (stressAlong choice q (suc j))
     along-path j h =
         within-weaken (whole-order (omega (arith, mul-le-mul-left (suc j) segment-covered))) (along-close (suc j) h)
 
     -- slip over the tendon is one step more
     over-the-tendon : slipDiesOut q before ≡ false
-        → Within (whole (suc (length (q .path)) * step)) (whole (coreAfterSlip q before))
-        (afterTendonSlip choice q (stressAlong choice q (length (q .path))))
+        → Within (whole (suc segments * step)) (whole (coreAfterSlip q before))
+        (afterTendonSlip choice q (stressAlong choice q segments))
     over-the-tendon not =
         let x = ticksAlong q (q .path) in
         let y = stressAlong choice q segments in
         let slip = slips-over-the-tendon began not in
         rw (end-of-path, slip)
         (within-weaken
-        (≼-trans (≼-of-≈ (≈-sym (whole-⊕ slipError (pathError segments)))) (whole-order (slip-covered segments)))
+        (≼-trans (≼-of-≈ (≈-sym (whole-⊕ slipError (pathError segments)))) (whole-order slip-covered))
         (step-close (slip-keeps-distance choice q (larger (whole x) y)) (larger-left (whole x) y) (larger-right (whole x) y)
         (after-slip-near facts choice x (omega (arith, began .closes, slip, end-of-path)))
         (rw (take-all segments (q .path) (le-refl segments)) at (along-close segments (le-refl segments)))))
 
-    -- and where slip dies out along the path both go on from the core's stress
-    after-slip : Within (whole (countedAtSlip q before * step)) (whole (coreAfterSlip q before)) (exactAfterSlip choice q before)
+    -- the steps counted at slip, and the exact stress there
+    abbrev at-slip : ℕ
+    at-slip = countedAtSlip q before
+
+    abbrev exact-slipped : Fraction
+    exact-slipped = exactAfterSlip choice q before
+
+    -- where slip dies out along the path both go on from the core's stress
+    after-slip : Within (whole (at-slip * step)) (whole (coreAfterSlip q before)) exact-slipped
     after-slip = by (slipDiesOut q before) refl
       where
         by : (dies : Bool) → slipDiesOut q before ≡ dies
-            → Within (whole (cond dies 0 (suc (length (q .path))) * step)) (whole (coreAfterSlip q before))
-            (cond dies (whole (coreAfterSlip q before)) (afterTendonSlip choice q (stressAlong choice q (length (q .path)))))
+            → Within (whole (cond dies 0 (suc segments) * step)) (whole (coreAfterSlip q before))
+            (cond dies (whole (coreAfterSlip q before)) (afterTendonSlip choice q (stressAlong choice q segments)))
         by true so = within-weaken (whole-order (omega arith)) (within-refl (whole (coreAfterSlip q before)))
         by false not = over-the-tendon not
 
-    after-deflector : Within (whole (countedAtSlip q before * step)) (whole (coreAfterDeflector q before))
-        (afterDeflector choice q (exactAfterSlip choice q before))
+    after-deflector : Within (whole (at-slip * step)) (whole (coreAfterDeflector q before)) (afterDeflector choice q exact-slipped)
     after-deflector =
         let x = whole (coreAfterSlip q before) in
-        let y = exactAfterSlip choice q before in
-        within-weaken (≼-of-≈ (zero-⊕ (whole (countedAtSlip q before * step))))
-        (step-close (deflector-keeps-distance choice q (larger x y)) (larger-left x y) (larger-right x y)
-        (deflected facts allowed began ran) after-slip)
+        within-weaken (≼-of-≈ (zero-⊕ (whole (at-slip * step))))
+        (step-close (deflector-keeps-distance choice q (larger x exact-slipped)) (larger-left x exact-slipped)
+        (larger-right x exact-slipped) (deflected facts allowed began ran) after-slip)
 
     -- the exact stresses after the path
     abbrev exact-rest : List Fraction
-    exact-rest = exactAfterSlip choice q before ∷ stressesBy (stepsAfterSlip choice q) (exactAfterSlip choice q before)
+    exact-rest = exact-slipped ∷ stressesBy (stepsAfterSlip choice q) exact-slipped
 
-    counted-few : countedAtSlip q before ≤ suc mostSegments
+    counted-few : at-slip ≤ suc mostSegments
     counted-few = by (slipDiesOut q before)
       where
-        by : (dies : Bool) → cond dies 0 (suc (length (q .path))) ≤ suc mostSegments
+        by : (dies : Bool) → cond dies 0 (suc segments) ≤ suc mostSegments
         by true = omega arith
         by false = omega arith
 
-    chain : Chain step (countedAtSlip q before) (coreAfterEarly q before ∷ before .stress ∷ stressesOf (given .rows))
-        (stressesBy (stepsAfterSlip choice q) (exactAfterSlip choice q before))
-    chain =
-        after-slip-close facts allowed began ran (countedAtSlip q before) (exactAfterSlip choice q before)
-        (omega (arith, counted-few)) after-slip
+    chain : Chain step at-slip (coreAfterEarly q before ∷ before .stress ∷ stressesOf (given .rows))
+        (stressesBy (stepsAfterSlip choice q) exact-slipped)
+    chain = after-slip-close facts allowed began ran at-slip exact-slipped (omega (arith, counted-few)) after-slip
 
     from-slip : (i : ℕ) → i < length rest
-        → Within (whole ((countedAtSlip q before + i) * step)) (whole (getD rest i 0)) (getD exact-rest i (whole 0))
+        → Within (whole ((at-slip + i) * step)) (whole (getD rest i 0)) (getD exact-rest i (whole 0))
     from-slip zero h = within-weaken (whole-order (mul-le-mul-right step (omega arith))) after-slip
     from-slip (suc i) h = chain-at chain i (omega arith)
 
@@ -171,7 +176,7 @@ module _ {q : Quantities} {report scratch : ℕ} (facts : Facts q report scratch
         (getD (exactStresses choice q before) place (whole 0))
 
     close-at : (place : ℕ) → place < stepsOf q → CloseAt place
-    close-at place h = by (decLt place (length (q .path)))
+    close-at place h = by (decLt place segments)
       where
         later : (i : ℕ) → i < length rest → CloseAt (segments + i)
         later i h =
@@ -201,9 +206,9 @@ module _ {q : Quantities} {report scratch : ℕ} (facts : Facts q report scratch
       exact-count =
           omega (
             arith,
-            each-length-then (stressAlong choice q) (length (q .path)) exact-rest,
+            each-length-then (stressAlong choice q) segments exact-rest,
             chain-lengths chain,
-            each-length-then along (length (q .path)) rest,
+            each-length-then along segments rest,
             count,
           );
       steps = close-at;
@@ -219,10 +224,10 @@ module _ {q : Quantities} {report scratch : ℕ} (facts : Facts q report scratch
   closes : jacked q + gainsOfRows (given .rows) ≡ given .last + lossesBefore before + lossesOfRows (given .rows)
   closes = omega (arith, began .closes, ages-close-up ran)
 
-  reported-last : getD (coreStresses q given) (length (q .path) + length (q .ages) + 2) 0 ≡ given .last
+  reported-last : getD (coreStresses q given) (segments + length (q .ages) + 2) 0 ≡ given .last
   reported-last =
-      let place : length (q .path) + length (q .ages) + 2 ≡ length (q .path) + suc (suc (length (q .ages))) = omega arith in
-      rw (place, each-then along (length (q .path)) rest (suc (suc (length (q .ages)))) 0) (ages-end ran)
+      let place : segments + length (q .ages) + 2 ≡ segments + suc (suc (length (q .ages))) = omega arith in
+      rw (place, each-then along segments rest (suc (suc (length (q .ages)))) 0) (ages-end ran)
 
   linked : Linked q given
   linked = record {

@@ -2,11 +2,12 @@
 -- 1,024th parts. Assumes nothing.
 use borrow.Author.Needs.{needs}
 use mathlib.Core.Path.{_≡_}
-use Prim.Native.Nat.{ℕ, _+_, _-_, _*_, _/_, _%_, _^_, _≤_, _<_}
+use Prim.Native.Nat.{ℕ, suc, _+_, _-_, _*_, _/_, _%_, _^_, _≤_, _<_}
 use native.Mathlib.Nat.{div-lt-iff-lt-mul, div-le-of-le-mul, mod-lt, div-add-mod', mul-div-le, lt-mul-div-succ, mul-le-mul, mul-le-mul-left}
 use native.Mathlib.Omega.{arith}
+use borrow.Author.Tests.{le-leb, lt-leb}
 use Rattle.ticks.specs.Ticks.{ticksPerUnit}
-use Rattle.formulas.specs.Steps.{dropAtJack}
+use Rattle.formulas.specs.Steps.{IsDropAtJack, dropAtJack}
 use Rattle.formulas.specs.Conditions.{slipLimit, DropFits, QuotientFits}
 use Rattle.formulas.specs.Roots.{Root}
 use Rattle.formulas.proofs.Drop.{one-drop}
@@ -43,26 +44,28 @@ module _ {d es slip pathLength : ℕ} (fits : DropFits d es slip pathLength) whe
       div-lt-iff-lt-mul some .1 (omega (arith, mod-lt product {m = divisor} some))
 
   module _ (z : ℕ) (root : Root (ticksPerUnit * (product / divisor) + ticksPerUnit * (product % divisor) / divisor) z) where
-    spreads-so : z * z * (12 * pathLength) ≤ 4 * d * (es * ticksPerUnit) * slip
-    spreads-so =
-        omega (
-          arith,
-          mul-le-mul-left divisor (root .reached),
-          mul-div-le (ticksPerUnit * (product % divisor)) divisor,
-          div-add-mod' product divisor,
-        )
-
-    next-does-not : 4 * d * (es * ticksPerUnit) * slip < (z + 1) * (z + 1) * (12 * pathLength)
-    next-does-not =
-        omega (
-          arith,
-          mul-le-mul-left divisor (root .passed),
-          lt-mul-div-succ (ticksPerUnit * (product % divisor)) (asked .some-divisor),
-          div-add-mod' product divisor,
-        )
+    is-drop : IsDropAtJack d es slip pathLength z
+    is-drop = record {
+      covered =
+          le-leb (z * z * (12 * pathLength)) (4 * d * (es * ticksPerUnit) * slip)
+          (omega (
+            arith,
+            mul-le-mul-left divisor (root .reached),
+            mul-div-le (ticksPerUnit * (product % divisor)) divisor,
+            div-add-mod' product divisor,
+          ));
+      next-not-covered =
+          lt-leb (suc z * suc z * (12 * pathLength)) (4 * d * (es * ticksPerUnit) * slip)
+          (omega (
+            arith,
+            mul-le-mul-left divisor (root .passed),
+            lt-mul-div-succ (ticksPerUnit * (product % divisor)) (asked .some-divisor),
+            div-add-mod' product divisor,
+          ));
+    }
 
     found : z ≡ dropAtJack d es slip pathLength
-    found = one-drop d es slip pathLength (fits .some-path) z spreads-so next-does-not
+    found = one-drop d es slip pathLength (fits .some-path) z is-drop
 
 mul-divisor : tie.Need-mul-divisor
 mul-divisor c = omega arith
