@@ -1,9 +1,10 @@
--- The theorem `marked`: document 01's marked readings and edges, all of them, and the edge of document 02's 11. Each is computed from the
--- definitions, unfolded down to arithmetic. Assumes nothing.
+-- The theorem `marked`: document 01's marked readings and edges, all of them, and the edges of document 02's 11 and 12. Each is computed from
+-- the definitions, unfolded down to arithmetic. Assumes nothing.
 use Prim.Native.Nat.{_+_, _*_}
-use mathlib.Core.Path.{_≡_, refl}
+use mathlib.Core.Path.{_≡_, refl, sym}
 use mathlib.Core.List.{[], _∷_}
-use lib.Dec.{leb→le}
+use lib.Dec.{leb→le, lit≤}
+use Rattle.formulas.proofs.Drop.{one-drop}
 use Rattle.ticks.specs.Doubles.{ticksOf, magnitude, one}
 use Rattle.logarithm.specs.Logarithm.{logarithm}
 use Rattle.coefficient.specs.Coefficients.{scf, ssf, mcf, ucr, ush, creepShare, shrinkageShare}
@@ -19,14 +20,14 @@ use Rattle.member.specs.Member.{checkedOf}
 use Rattle.stages.specs.Run.{memberResult}
 use Rattle.text.specs.Columns.{firstColumns}
 use Rattle.text.specs.Text.{agesText, reportText}
-use Rattle.readings.specs.Readings.{Marked, linesOf, fieldsOf, hourly, numberAndPlace, resultOfCard, withAges}
+use Rattle.readings.specs.Readings.{Marked, withSlip, linesOf, fieldsOf, hourly, numberAndPlace, resultOfCard, withAges}
 use Rattle.readings.specs.Readings.{double0153, halfApart}
 
--- what opens every definition that a reading is computed by
+-- what opens every definition that a reading is computed by, but the drop at the jack
 unfoldable computed : Unit {0}
 unfolding firstColumns agesText reportText linesOf fieldsOf hourly cardOutcome digitsOf spacesIn numbersIn segmentsFrom agesFrom checkedOf
     firstFailing segmentCodes rangesOfSegments rangesOfMoments hoursOfAges memberResult logarithm scf ssf mcf ucr ush creepShare
-    shrinkageShare pathFriction pathLength factor dropAtJack ticksOf magnitude
+    shrinkageShare pathFriction pathLength factor ticksOf magnitude
 computed = tt
 
 -- the longest run, by itself: its 128 logarithms take most of the steps that a declaration may take
@@ -34,8 +35,20 @@ sixty-four-ages : numberAndPlace (resultOfCard (withAges 64) 320) ≡ 0 ∷ 0 �
 unfolding computed
 sixty-four-ages = refl
 
-pub marked : Marked
+-- the drop at the jack is not looked for among all numbers, but found by its two squares
+drop : dropAtJack 24566 29479201 1 102400 ≡ 49132
+drop = sym (one-drop 24566 29479201 1 102400 (lit≤ tt) 49132 (record { covered = refl; next-not-covered = refl }))
+
+slip-reaches : numberAndPlace (resultOfCard (withSlip 102400) 15) ≡ 0 ∷ 0 ∷ []
 unfolding computed
+slip-reaches = rw drop refl
+
+slip-passes : numberAndPlace (resultOfCard (withSlip 102399) 15) ≡ 12 ∷ 7 ∷ []
+unfolding computed
+slip-passes = rw drop refl
+
+pub marked : Marked
+unfolding computed dropAtJack
 marked = record {
   sample-fields = refl;
   sample-ages = refl;
@@ -67,4 +80,7 @@ marked = record {
   gain-reaches-passes = refl;
   gain-above = refl;
   gain-above-refused = refl;
+  drop-49132 = drop;
+  slip-reaches-passes = slip-reaches;
+  slip-beyond-refused = slip-passes;
 }

@@ -1,5 +1,5 @@
--- The theorem `marked` rests on it. The readings that document 01 marks ★, and its edges, in the order of its "Sample beam", and the edge
--- of document 02's 11: one list of what the definitions of the other crates give, to be held beside the papers.
+-- The theorem `marked` rests on it. The readings that document 01 marks ★, and its edges, in the order of its "Sample beam", and the edges
+-- of document 02's 11 and 12: one list of what the definitions of the other crates give, to be held beside the papers.
 use Prim.Native.Nat.{ℕ, zero, suc, _+_, _-_, _*_, _^_, _≤_}
 use mathlib.Core.List.{List, [], _∷_, _++_}
 use mathlib.Core.Path.{_≡_}
@@ -13,6 +13,7 @@ use Rattle.fields.specs.Outcomes.{accepted, OrRefusal, Gives, Refuses}
 use Rattle.card.specs.Card.{cardOutcome}
 use Rattle.fields.specs.Quantities.{Quantities, Segment, Age, parabola, quantitiesRead}
 use Rattle.fields.specs.Refusals.{number, place}
+use Rattle.formulas.specs.Steps.{dropAtJack}
 use Rattle.member.specs.Constants.{pathFriction}
 use Rattle.member.specs.declared.Member.{Member}
 use Rattle.member.specs.Member.{frictionOf, memberOf}
@@ -94,6 +95,14 @@ reaching = withGain 150005 28603053056
 
 abbrev pub passing : List ℕ
 passing = withGain 150000 28601375744
+
+-- the sample's but for a slip of a tick, this tendon length, Es 29,479,201, and a straight of 100 feet with wobble 2, at whose end the slip
+-- dies out
+abbrev pub withSlip : ℕ → List ℕ
+withSlip length =
+    linesOf
+    ((2 ∷ 1 ∷ 240000 ∷ 120000 ∷ 0 ∷ 1 ∷ length ∷ []) ∷ (2 ∷ 1 ∷ 29479201 ∷ 3500000 ∷ 4000000 ∷ 3072 ∷ []) ∷ line3 ∷ line4 2 0 1 3
+    ∷ (1 ∷ 102400 ∷ 0 ∷ []) ∷ ageLines)
 
 -- ---- what a card gives
 
@@ -233,3 +242,8 @@ pub record Marked : Type 0 where
       ∷ (3 ∷ 438000 ∷ 0 ∷ 1479475 ∷ 6060330 ∷ 105474480 ∷ 0 ∷ []) ∷ [])
   pub gain-above : 100 * firstLiftedOf passing ≡ 80 * 150000 * 1024 + 100
   pub gain-above-refused : numberAndPlace (resultOfCard passing 15) ≡ 11 ∷ 1 ∷ []
+  -- document 02, W5: "12 when the affected length Z·P/(2d) passes the tendon length", place 7. Z is just twice the friction, so that the
+  -- affected length is that of the path, 102,400 ticks: it may be that of the tendon, and not a tick more
+  pub drop-49132 : dropAtJack 24566 29479201 1 102400 ≡ 2 * 24566
+  pub slip-reaches-passes : numberAndPlace (resultOfCard (withSlip 102400) 15) ≡ 0 ∷ 0 ∷ []
+  pub slip-beyond-refused : numberAndPlace (resultOfCard (withSlip 102399) 15) ≡ 12 ∷ 7 ∷ []
