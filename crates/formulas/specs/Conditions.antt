@@ -1,6 +1,6 @@
 -- It serves the code alone, and every accepted member has it. What the code's arithmetic asks of the numbers of each step, so that no
 -- product wraps: the powers of two above document 01's ranges.
-use Prim.Native.Nat.{ℕ, _+_, _*_, _/_, _^_, _≤_, _<_}
+use Prim.Native.Nat.{ℕ, _^_, _≤_, _<_}
 use Rattle.ticks.specs.Ticks.{T}
 use Rattle.fields.specs.Limits.{strengths, range, mostFriction}
 
@@ -10,8 +10,8 @@ use Rattle.fields.specs.Limits.{strengths, range, mostFriction}
 abbrev pub stressLimit : ℕ
 stressLimit = 2 ^ 28
 
-abbrev pub slipLimit : ℕ
-slipLimit = 2 ^ 12
+abbrev pub mostSlip : ℕ
+mostSlip = range .slip .high
 
 abbrev pub lengthLimit : ℕ
 lengthLimit = 2 ^ 22
@@ -75,17 +75,6 @@ shrinkageLimit = 2 ^ 26
 abbrev pub mostGain : ℕ
 mostGain = 2 ^ 54
 
--- ---- what a product by a divisor asks
-
--- above every number of the code
-abbrev pub wordLimit : ℕ
-wordLimit = 2 ^ 64
-
-pub record QuotientFits (f x divisor : ℕ) : Type 0 where
-  pub some-divisor : 1 ≤ divisor
-  pub rest-fits : f * divisor < wordLimit
-  pub whole-fits : f * (x / divisor + 1) < wordLimit
-
 -- ---- what each step asks
 
 pub record FrictionFits (stress friction : ℕ) : Type 0 where
@@ -96,7 +85,7 @@ pub record FrictionFits (stress friction : ℕ) : Type 0 where
 pub record DropFits (d es slip pathLength : ℕ) : Type 0 where
   pub d-fits : d < stressLimit
   pub es-fits : es < esLimit
-  pub slip-fits : slip < slipLimit
+  pub slip-most : slip ≤ mostSlip
   pub some-path : 1 ≤ pathLength
   pub path-fits : pathLength < pathLimit
 
@@ -108,7 +97,7 @@ pub record AffectedFits (d pathLength length : ℕ) : Type 0 where
 
 pub record SlipFits (es slip length : ℕ) : Type 0 where
   pub es-fits : es < esLimit
-  pub slip-fits : slip < slipLimit
+  pub slip-most : slip ≤ mostSlip
   pub some-length : 1 ≤ length
   pub length-fits : length < lengthLimit
 

@@ -32,7 +32,8 @@ pub record IsDropAtJack (d es slip pathLength z : ℕ) : Type 0 where
   pub covered : slipCovers d es slip pathLength z ≡ true
   pub next-not-covered : slipCovers d es slip pathLength (suc z) ≡ false
 
--- Z itself, which is such a number by the law `is-drop`, and no other is by `one-drop`; none above the right side is covered
+-- Z itself: where the path has a length it is such a number by the law `is-drop`, and no other is by `one-drop`; the slip covers none above
+-- the right side
 unfoldable pub dropAtJack : (d es slip pathLength : ℕ) → ℕ
 unfolding largestUpTo
 dropAtJack d es slip pathLength = largestUpTo (4 * d * (es * ticksPerUnit) * slip) (slipCovers d es slip pathLength)

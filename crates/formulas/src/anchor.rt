@@ -7,7 +7,6 @@ ghost use Rattle.formulas.specs.Conditions.{stressLimit, DropFits, Affec
 ghost use Rattle.formulas.specs.Roots.{Root, Further, FurtherFits};
 use crate::INCHES_TO_A_FOOT;
 use crate::difference;
-use crate::wide;
 use ticks::TICKS_PER_UNIT;
 
 // Both sides of Z²·P <= 4·d·Es·slip over 4: this many inches are left of each foot of P.
@@ -54,14 +53,17 @@ fn root_of_ticks(whole: u64, parts: u64) -> u64
     root + further(root, rest, ROOT_OF_TICKS)
 }
 
-// Z. Its square is 1024·d·Es·slip/(3·path) at the most, of up to 75 bits; without the 1,024 it fits 64.
+// Z. Its square is at most 1024·d·Es·slip/(3·path), which may need more than 64 bits; d·Es·slip fits them.
 pub fn drop_at_jack(friction: u64, es: u64, slip: u64, path_length: u64) -> u64
     requires { ⌜ DropFits friction es slip «path_length» ⌝ }
     ensures { λ r. ⌜ r ≡ dropAtJack friction es slip «path_length» ⌝ }
 {
     let divisor = QUARTER_OF_A_FOOT * path_length;
-    let square = wide::product_over(slip, friction * es, divisor);
-    root_of_ticks(square.whole, TICKS_PER_UNIT * square.rest / divisor)
+    let product = friction * es * slip;
+    root_of_ticks(
+        product / divisor,
+        TICKS_PER_UNIT * (product % divisor) / divisor,
+    )
 }
 
 // Whether the slip reaches beyond the tendon's length. Z·path may need more than 64 bits, so the other side is divided.

@@ -9,7 +9,6 @@ ghost use Rattle.formulas.specs.Conditions.{MomentsFit, ConcreteFits, Sh
 ghost use Rattle.formulas.specs.Conditions.{GainFits};
 
 pub mod anchor;
-mod wide;
 
 use coefficient::codes::Steel;
 use ticks::T;
@@ -142,10 +141,10 @@ pub fn shrinkage_loss(whole_shrinkage: u64, share: u64) -> u64
     whole_shrinkage * share / T
 }
 
+// Es·rise/Ec. The product may need more than 64 bits, so the whole Ec in the rise are taken out of it first; they divide exactly.
 pub fn moment_gain(es: u64, ec: u64, rise: u64) -> u64
     requires { ⌜ GainFits es ec rise ⌝ }
     ensures { λ r. ⌜ r ≡ momentGain es ec rise ⌝ }
 {
-    let gain = wide::product_over(es, rise, ec);
-    gain.whole
+    es * (rise / ec) + es * (rise % ec) / ec
 }

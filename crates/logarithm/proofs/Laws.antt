@@ -1,5 +1,5 @@
--- What callers use of the logarithm in place of its definition: that it is the largest k of all for every hour up to the service
--- life, since none of these reaches the table's last; that it never falls; and its two ends. Assumes nothing.
+-- What callers use of the logarithm in place of its definition: its test as an inequality of powers; that it is the largest k of all for
+-- every hour up to the service life, since none of these reaches the table's last; that it never falls; and its two ends. Assumes nothing.
 use mathlib.Core.Path.{_≡_}
 use mathlib.Core.Logic.{⊎-elim}
 use Prim.Native.Nat.{ℕ, suc, _^_, _≤_, _<_}
@@ -13,9 +13,9 @@ use Rattle.logarithm.specs.Logarithm.{power, lastThreshold, serviceLife,
 use Rattle.logarithm.specs.Table.{IsLargest}
 use Rattle.logarithm.proofs.Largest.{no-more, is-reached, no-less, is-largest}
 
--- what is reached, and what lies beyond
-pub reached : (hour k : ℕ) → 10 ^ k ≤ hour ^ power → reaches hour k ≡ true
-reached hour k h = le-leb (10 ^ k) (hour ^ power) h
+-- the test passes at what is reached, and not beyond
+pub hour-reaches : (hour k : ℕ) → 10 ^ k ≤ hour ^ power → reaches hour k ≡ true
+hour-reaches hour k h = le-leb (10 ^ k) (hour ^ power) h
 
 pub beyond : (hour k : ℕ) → hour ^ power < 10 ^ suc k → (j : ℕ) → k < j → reaches hour j ≡ false
 beyond hour k h j more = lt-leb (10 ^ j) (hour ^ power) (lt-of-lt-of-le h (pow-le-pow-right {n = 10} (lit< tt) more))
@@ -27,13 +27,13 @@ never-falls earlier hour h =
     (λ none. omega arith)
     (λ (passes : reaches earlier (logarithm earlier) ≡ true).
     no-less (reaches hour) lastThreshold (logarithm earlier) (no-more (reaches earlier) lastThreshold)
-    (reached hour (logarithm earlier) (le-trans (leb-true _ _ passes) (pow-le-pow-left h power))))
+    (hour-reaches hour (logarithm earlier) (le-trans (leb-true _ _ passes) (pow-le-pow-left h power))))
     (is-reached (reaches earlier) lastThreshold)
 
 -- the two powers of ten between which an hour's power lies decide its logarithm
 pub decided : (hour k : ℕ) → k ≤ lastThreshold → 10 ^ k ≤ hour ^ power → hour ^ power < 10 ^ suc k → logarithm hour ≡ k
 unfolding logarithm
-decided hour k le at next = is-largest (reaches hour) lastThreshold k le (reached hour k at) (beyond hour k next)
+decided hour k le at next = is-largest (reaches hour) lastThreshold k le (hour-reaches hour k at) (beyond hour k next)
 
 pub at-first-hour : logarithm 1 ≡ 0
 at-first-hour = decided 1 0 (lit≤ tt) (lit≤ tt) (lit< tt)
@@ -53,5 +53,5 @@ unfolding logarithm
 largest hour some h = record {
   reached =
       ⊎-elim (λ none. rw none (one-le-pow power hour some)) (λ passes. leb-true _ _ passes) (is-reached (reaches hour) lastThreshold);
-  largest = λ j r. let less = within hour j h r in no-less (reaches hour) lastThreshold j (omega arith) (reached hour j r);
+  largest = λ j r. let less = within hour j h r in no-less (reaches hour) lastThreshold j (omega arith) (hour-reaches hour j r);
 }

@@ -9,8 +9,8 @@ use borrow.Author.Tests.{leb-true, ltb-true, eqb-true, eqb-false}
 use lib.Dec.{leb, ltb, eqb, lit<}
 use lib.ListN.{length, drop, length-drop}
 use Rattle.logarithm.specs.Logarithm.{serviceLife}
-use Rattle.fields.specs.Quantities.{headFields, perSegment, perAge, firstSegmentField, firstAgeField, bend, Quantities, quantitiesOf, Segment, segmentsFrom}
-use Rattle.fields.specs.Quantities.{Age, isPretensioned, isMoist, straight, parabola}
+use Rattle.fields.specs.Quantities.{headFields, perSegment, perAge, firstSegmentField, firstAgeField, bend, Quantities, quantitiesOf}
+use Rattle.fields.specs.Quantities.{Segment, segmentsFrom, Age, isPretensioned, isMoist, straight, parabola}
 use Rattle.fields.specs.Outcomes.{Gives}
 use Rattle.fields.specs.Limits.{Range, range, mostOfStrength, hundredths, mostLength, mostMoment, leastStraight, leastParabola}
 use Rattle.fields.specs.Limits.{mostRise, mostAngle, leastMoistTransfer, mostFriction, reportRoom, scratchRoom, mostKappa}

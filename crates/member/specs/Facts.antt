@@ -46,7 +46,7 @@ pub record PathFits (segments : ℕ) (list : List ℕ) : Type 0 where
   pub segments-fit : SegmentsFit (segmentsFrom segments list)
 
 -- what X is computed from
-pub record FrictionFits (wobble curvature segments : ℕ) (list : List ℕ) : Type 0 where
+pub record PathFrictionFits (wobble curvature segments : ℕ) (list : List ℕ) : Type 0 where
   pub path : PathFits segments list
   pub wobble-most : wobble ≤ range .wobble .high
   pub curvature-most : curvature ≤ range .curvature .high

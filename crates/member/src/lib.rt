@@ -25,7 +25,7 @@ use fields::places;
 use fields::refusal::NumberOrRefusal;
 use fields::refusal::Refusal;
 
-// What the run uses of an accepted member, by document 01's names. Its segments and its ages stay in the fields.
+// What the run uses of an accepted member, by the papers' names. Its segments and its ages stay in the fields.
 pub struct Member {
     pub hours: MemberHours,
     pub steel: Steel,

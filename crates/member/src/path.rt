@@ -4,7 +4,7 @@ ghost use Rattle.fields.specs.Quantities.{segmentsFrom};
 ghost use Rattle.fields.specs.Limits.{range};
 ghost use Rattle.checks.specs.Places.{segment};
 ghost use Rattle.member.specs.Constants.{wobblePart, curvaturePart, pathFriction, pathLength};
-ghost use Rattle.member.specs.Facts.{PartFits, PathFits, FrictionFits, mostPart, AtMost};
+ghost use Rattle.member.specs.Facts.{PartFits, PathFits, PathFrictionFits, mostPart, AtMost};
 use fields::layout::PER_SEGMENT;
 use fields::places;
 use ticks::T;
@@ -34,7 +34,7 @@ fn curvature_part(curvature: u64, kind: u64, length: u64, rise: u64) -> u64
 
 // X of the segments with which `part` begins.
 pub fn path_friction(part: &[u64], segments: usize, wobble: u64, curvature: u64) -> u64
-    requires { ⌜ FrictionFits wobble curvature segments (now part) ⌝ }
+    requires { ⌜ PathFrictionFits wobble curvature segments (now part) ⌝ }
     ensures { λ r. ⌜ r ≡ pathFriction wobble curvature (segmentsFrom segments (now (part .entry))) ⌝ }
 {
     let mut friction = 0u64;

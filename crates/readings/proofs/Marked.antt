@@ -1,5 +1,5 @@
--- The theorem `marked`: document 01's marked readings and edges, all of them, and the edges of document 02's 11 and 12. Each is computed from
--- the definitions, unfolded down to arithmetic. Assumes nothing.
+-- The theorem `marked`: document 01's marked readings and edges, all of them, and the edges of document 02's 11 and 12. Each is computed
+-- from the definitions, unfolded down to arithmetic, but for the drop at the jack, which is found by its two squares. Assumes nothing.
 use Prim.Native.Nat.{_+_, _*_}
 use mathlib.Core.Path.{_≡_, refl, sym}
 use mathlib.Core.List.{[], _∷_}
@@ -20,7 +20,7 @@ use Rattle.member.specs.Member.{checkedOf}
 use Rattle.stages.specs.Run.{memberResult}
 use Rattle.text.specs.Columns.{firstColumns}
 use Rattle.text.specs.Text.{agesText, reportText}
-use Rattle.readings.specs.Readings.{Marked, withSlip, linesOf, fieldsOf, hourly, numberAndPlace, resultOfCard, withAges}
+use Rattle.readings.specs.Readings.{Marked, withAnchorSet, linesOf, fieldsOf, hourly, numberAndPlace, resultOfCard, withAges}
 use Rattle.readings.specs.Readings.{double0153, halfApart}
 
 -- what opens every definition that a reading is computed by, but the drop at the jack
@@ -35,18 +35,18 @@ sixty-four-ages : numberAndPlace (resultOfCard (withAges 64) 320) ≡ 0 ∷ 0 �
 unfolding computed
 sixty-four-ages = refl
 
--- the drop at the jack is not looked for among all numbers, but found by its two squares
 drop : dropAtJack 24566 29479201 1 102400 ≡ 49132
 drop = sym (one-drop 24566 29479201 1 102400 (lit≤ tt) 49132 (record { covered = refl; next-not-covered = refl }))
 
-slip-reaches : numberAndPlace (resultOfCard (withSlip 102400) 15) ≡ 0 ∷ 0 ∷ []
+slip-reaches : numberAndPlace (resultOfCard (withAnchorSet 102400) 15) ≡ 0 ∷ 0 ∷ []
 unfolding computed
 slip-reaches = rw drop refl
 
-slip-passes : numberAndPlace (resultOfCard (withSlip 102399) 15) ≡ 12 ∷ 7 ∷ []
+slip-beyond : numberAndPlace (resultOfCard (withAnchorSet 102399) 15) ≡ 12 ∷ 7 ∷ []
 unfolding computed
-slip-passes = rw drop refl
+slip-beyond = rw drop refl
 
+-- with the drop at the jack opened for slips of 0, where it is 0 at once
 pub marked : Marked
 unfolding computed dropAtJack
 marked = record {
@@ -82,5 +82,5 @@ marked = record {
   gain-above-refused = refl;
   drop-49132 = drop;
   slip-reaches-passes = slip-reaches;
-  slip-beyond-refused = slip-passes;
+  slip-beyond-refused = slip-beyond;
 }

@@ -98,8 +98,8 @@ passing = withGain 150000 28601375744
 
 -- the sample's but for a slip of a tick, this tendon length, Es 29,479,201, and a straight of 100 feet with wobble 2, at whose end the slip
 -- dies out
-abbrev pub withSlip : ℕ → List ℕ
-withSlip length =
+abbrev pub withAnchorSet : ℕ → List ℕ
+withAnchorSet length =
     linesOf
     ((2 ∷ 1 ∷ 240000 ∷ 120000 ∷ 0 ∷ 1 ∷ length ∷ []) ∷ (2 ∷ 1 ∷ 29479201 ∷ 3500000 ∷ 4000000 ∷ 3072 ∷ []) ∷ line3 ∷ line4 2 0 1 3
     ∷ (1 ∷ 102400 ∷ 0 ∷ []) ∷ ageLines)
@@ -245,5 +245,5 @@ pub record Marked : Type 0 where
   -- document 02, W5: "12 when the affected length Z·P/(2d) passes the tendon length", place 7. Z is just twice the friction, so that the
   -- affected length is that of the path, 102,400 ticks: it may be that of the tendon, and not a tick more
   pub drop-49132 : dropAtJack 24566 29479201 1 102400 ≡ 2 * 24566
-  pub slip-reaches-passes : numberAndPlace (resultOfCard (withSlip 102400) 15) ≡ 0 ∷ 0 ∷ []
-  pub slip-beyond-refused : numberAndPlace (resultOfCard (withSlip 102399) 15) ≡ 12 ∷ 7 ∷ []
+  pub slip-reaches-passes : numberAndPlace (resultOfCard (withAnchorSet 102400) 15) ≡ 0 ∷ 0 ∷ []
+  pub slip-beyond-refused : numberAndPlace (resultOfCard (withAnchorSet 102399) 15) ≡ 12 ∷ 7 ∷ []

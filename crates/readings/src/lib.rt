@@ -1,2 +1,2 @@
-// Theorems about the definitions: the papers' marked readings, which specs/Readings.antt lists, and which cards run as they did before a
-// blank slip read 384 ticks, in specs/Slip.antt. Nothing runs.
+// Theorems about the definitions: the papers' marked readings, which specs/Readings.antt lists, and in specs/Slip.antt that cards which
+// write their slip run alike, whatever a blank one reads. Nothing runs.

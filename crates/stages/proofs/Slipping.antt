@@ -5,7 +5,7 @@ use mathlib.Core.Bool.{Bool, true, false}
 use Prim.Native.Nat.{ℕ}
 use native.Mathlib.Omega.{arith}
 use Rattle.fields.specs.declared.refusal.Refusal.the-variants.{AnchorSet}
-use Rattle.fields.specs.Outcomes.{OrRefusal, Gives, Refuses}
+use Rattle.fields.specs.Outcomes.{Gives, Refuses}
 use Rattle.formulas.specs.Steps.{diesOut, dropAtJack, passesTendon, dropAtSection, slipLoss}
 use Rattle.member.specs.declared.Member.{Member}
 use Rattle.stages.specs.Run.{frictionLossOf, slipOf}

@@ -8,7 +8,7 @@ use Rattle.logarithm.specs.Logarithm.{serviceLife, lastThreshold}
 use Rattle.logarithm.specs.Table.{IsTable}
 use Rattle.member.specs.declared.Member.{Member}
 use Rattle.fields.specs.Limits.{strengths, mostMoment, mostFriction, mostKappa, mostAges}
-use Rattle.formulas.specs.Conditions.{stressLimit, slipLimit, lengthLimit, pathLimit, deflectorLimit, leastStrength}
+use Rattle.formulas.specs.Conditions.{stressLimit, mostSlip, lengthLimit, pathLimit, deflectorLimit, leastStrength}
 use Rattle.formulas.specs.Conditions.{esLimit, eciLimit, leastEc, ecLimit, leastInertia, mostMomentStress, eccentricityLimit, creepLimit}
 use Rattle.formulas.specs.Conditions.{shrinkageLimit, mostGain}
 use Rattle.stages.specs.declared.ends.End.{End}
@@ -22,7 +22,7 @@ pub record Bounded (m : Member) : Type 0 where
   pub strength-most : m .«ultimate_strength» ≤ strengths .high
   pub jacking-fits : jacked m < stressLimit
   pub deflector-fits : m .«deflector_loss» < deflectorLimit
-  pub slip-fits : m .slip < slipLimit
+  pub slip-most : m .slip ≤ mostSlip
   pub length : 1 ≤ m .length
   pub length-fits : m .length < lengthLimit
   pub es-fits : m .es < esLimit
@@ -57,8 +57,8 @@ pub record EndFits (m : Member) (thresholds : List ℕ) (moments : ℕ) : Type 0
 
 -- ---- the losses
 
--- what slip asks, friction having taken so much
-pub record SlipFits (m : Member) (friction : ℕ) : Type 0 where
+-- what slip at the section asks, friction having taken so much
+pub record SectionSlipFits (m : Member) (friction : ℕ) : Type 0 where
   pub member : Bounded m
   pub friction-is : friction ≡ frictionLossOf m
 

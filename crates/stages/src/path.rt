@@ -2,7 +2,7 @@
 ghost use mathlib.Core.Path.{_≡_};
 ghost use Rattle.fields.specs.Given.{numberGiven};
 ghost use Rattle.stages.specs.Run.{slipOf, seated};
-ghost use Rattle.stages.specs.Conditions.{Bounded, SlipFits};
+ghost use Rattle.stages.specs.Conditions.{Bounded, SectionSlipFits};
 ghost use Rattle.stages.specs.Given.{seatedGiven};
 use crate::stress;
 use fields::refusal::NumberOrRefusal;
@@ -25,7 +25,7 @@ pub enum Seating {
 
 // What slip takes at the section, friction having taken this much; or the refusal of a slip that reaches beyond the tendon's length.
 fn slip_at_section(m: Member, friction: u64) -> NumberOrRefusal
-    requires { ⌜ SlipFits m friction ⌝ }
+    requires { ⌜ SectionSlipFits m friction ⌝ }
     ensures { λ r. ⌜ numberGiven r ≡ slipOf m ⌝ }
 {
     if anchor::dies_out(friction, m.path_length) {
@@ -38,7 +38,7 @@ fn slip_at_section(m: Member, friction: u64) -> NumberOrRefusal
     NumberOrRefusal::Number(formulas::slip_loss(m.es, m.slip, m.length))
 }
 
-// The stress is looked at after each of the two losses.
+// The stress is looked at after each of the two losses, and how far the slip reaches before the second.
 pub fn seat(m: Member) -> Seating
     requires { ⌜ Bounded m ⌝ }
     ensures { λ r. ⌜ seatedGiven r ≡ seated m ⌝ }

@@ -16,7 +16,7 @@ use Rattle.member.specs.Member.{pathLengthOf}
 use Rattle.stages.specs.Run.{Report}
 use Rattle.exponential.specs.Factor.{powers}
 use Rattle.exponential.specs.Series.{sumTo}
-use Rattle.tolerance.specs.Method.{Choice, exponentAlong, FactorsAlong, Admissible, tableChoice, stressAlong, afterSlip}
+use Rattle.tolerance.specs.Method.{Choice, exponentAlong, FactorsAlong, Admissible, tableChoice, stressAlong, afterTendonSlip}
 use Rattle.tolerance.specs.Method.{stepsAfterSlip, afterDeflector}
 use Rattle.ticks.specs.Ticks.{ticksPerUnit}
 
@@ -60,9 +60,14 @@ unfoldable pub stressesBy : List (Fraction → Fraction) → Fraction → List F
 stressesBy [] stress = []
 stressesBy (step ∷ steps) stress = step stress ∷ stressesBy steps (step stress)
 
+-- whether slip dies out along the path: document 02, W5, "in the fraction method too the core's d decides which rule holds"
+abbrev pub slipDiesOut : Quantities → BeforeAges → Bool
+slipDiesOut q before = diesOut (before .friction) (pathLengthOf q)
+
+-- "a path under the new rule entering the fraction method with the core's own stress after slip"
 abbrev pub exactAfterSlip : Choice → Quantities → BeforeAges → Fraction
 exactAfterSlip choice q before =
-    afterSlip choice q (before .friction) (coreAfterSlip q before) (stressAlong choice q (length (q .path)))
+    cond (slipDiesOut q before) (whole (coreAfterSlip q before)) (afterTendonSlip choice q (stressAlong choice q (length (q .path))))
 
 -- the stress after every step, beside the core's
 abbrev pub exactStresses : Choice → Quantities → BeforeAges → List Fraction
@@ -71,10 +76,6 @@ exactStresses choice q before =
     ++ (exactAfterSlip choice q before ∷ stressesBy (stepsAfterSlip choice q) (exactAfterSlip choice q before))
 
 -- ---- how far apart
-
--- whether slip dies out along the path, by "the core's d"
-abbrev pub slipDiesOut : Quantities → BeforeAges → Bool
-slipDiesOut q before = diesOut (before .friction) (pathLengthOf q)
 
 -- the steps that are counted at slip: all so far; but document 02, W5: the distance "is then counted anew from the stress after slip, with
 -- only the steps after it"

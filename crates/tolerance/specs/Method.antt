@@ -1,7 +1,6 @@
--- The promise rests on it. The method in fractions: document 01, "Steps", "these lines without rounding", with the gain, the friction and
--- the slip of document 02, W1, W3 and W5, beside `Run` of `stages`. Each step after the path is a map of stresses.
+-- The promise rests on it. The method in fractions: document 01, "Steps", "these lines without rounding", with the gain and the friction
+-- of document 02, W1 and W3, beside `Run` of `stages`. Each step after the path is a map of stresses.
 use Prim.Native.Nat.{ℕ, suc, _≤_, _+_, _*_}
-use mathlib.Core.Bool.{cond}
 use mathlib.Core.List.{List, [], _∷_}
 use lib.ListN.{length, take}
 use Rattle.fraction.specs.Fraction.{Fraction, whole, _≼_, _⊕_, _⊖_, _⊗_, _÷_}
@@ -13,8 +12,7 @@ use Rattle.coefficient.specs.Coefficients.{sinceTransfer, sinceCuring, sinceTen
 use Rattle.tables.specs.declared.shares.Share.{Share}
 use Rattle.tables.specs.Tables.{shareRows}
 use Rattle.fields.specs.Quantities.{Quantities, Age}
-use Rattle.formulas.specs.Steps.{diesOut}
-use Rattle.member.specs.Member.{kindOf, steelOf, hoursOf, pathLengthOf}
+use Rattle.member.specs.Member.{kindOf, steelOf, hoursOf}
 use Rattle.member.specs.Constants.{jacked}
 use Rattle.tolerance.specs.Formulas.{pathFriction, kappa, wholeCreep, wholeShrinkage, shareOf, slipLoss}
 use Rattle.tolerance.specs.Formulas.{relaxationLoss, momentStress, concreteStress, shorteningLoss, creepLoss, shrinkageLoss}
@@ -58,16 +56,11 @@ module _ (choice : Choice) (q : Quantities) where
   abbrev pub stressAlong : ℕ → Fraction
   stressAlong j = whole (jacked q) ⊗ choice .factor j
 
-  -- 2. slip, over the tendon
+  -- 2. slip over the tendon; where it dies out along the path the method is entered anew (`exactAfterSlip`). Then the deflector loss, which
+  -- is no step
   abbrev pub afterTendonSlip : Fraction → Fraction
   afterTendonSlip stress = stress ⊖ slipLoss (q .Es) (q .slip) (q .tendonLength)
 
-  -- document 02, W5: "in the fraction method too the core's d decides which rule holds", "a path under the new rule entering the fraction
-  -- method with the core's own stress after slip"
-  abbrev pub afterSlip : (d coreAfterSlip : ℕ) → Fraction → Fraction
-  afterSlip d coreAfterSlip stress = cond (diesOut d (pathLengthOf q)) (whole coreAfterSlip) (afterTendonSlip stress)
-
-  -- then the deflector loss, which is no step
   abbrev pub afterDeflector : Fraction → Fraction
   afterDeflector stress = stress ⊖ whole (q .deflectorLoss * ticksPerUnit)
 

@@ -11,7 +11,7 @@ use Rattle.logarithm.specs.Largest.{largestUpTo}
 use Rattle.logarithm.specs.Logarithm.{power, lastThreshold, reaches, logarithm}
 use Rattle.logarithm.specs.Table.{IsTable}
 use Rattle.logarithm.proofs.Largest.{no-more, no-less, cut}
-use Rattle.logarithm.proofs.Laws.{reached as is-reached, beyond as lies-beyond}
+use Rattle.logarithm.proofs.Laws.{hour-reaches, beyond as lies-beyond}
 use Rattle.logarithm.proofs.reading.Statement.{statement}
 use Rattle.logarithm.proofs.reading.Tie as tie
 
@@ -34,7 +34,7 @@ module _ (hour reached beyond middle : ℕ) (b : Between hour reached beyond) (a
     end = b .end;
     most = b .most;
     least = no-less (reaches hour) lastThreshold middle (let e = b .end in omega arith)
-        (is-reached hour middle (le-trans (t .threshold middle (let e = b .end in omega arith) .reached) (pow-le-pow-left h power)));
+        (hour-reaches hour middle (le-trans (t .threshold middle (let e = b .end in omega arith) .reached) (pow-le-pow-left h power)));
   }
 
   down : hour < getD thresholds middle 0 → Between hour reached middle

@@ -14,8 +14,8 @@ use Rattle.member.proofs.member_of.Statement.{statement}
 use Rattle.member.proofs.member_of.Tie as tie
 
 made : (q : Quantities) {hours : MemberHours} {steel : Steel} {friction path-length kappa creep shrinkage ages : ℕ}
-    → hours ≡ hoursOf q → steel ≡ steelOf (q .steel) → friction ≡ frictionOf q → path-length ≡ pathLengthOf q → kappa ≡ kappaOf q → creep ≡ creepOf q
-    → shrinkage ≡ shrinkageOf q → length (q .ages) ≡ ages
+    → hours ≡ hoursOf q → steel ≡ steelOf (q .steel) → friction ≡ frictionOf q → path-length ≡ pathLengthOf q → kappa ≡ kappaOf q
+    → creep ≡ creepOf q → shrinkage ≡ shrinkageOf q → length (q .ages) ≡ ages
     → record {
       hours = hours;
       steel = steel;
@@ -106,7 +106,8 @@ returns c =
     let segments = start .args .segments in
     let ages = start .args .ages in
     made (quantitiesOf segments ages fields) (read .before .before .hours-of .ensures) (read .steel-of .ensures)
-    (start .pre .friction-is) (rw (c .before .before .from-element .ensures) at (c .before .path-length .ensures)) (start .pre .kappa-is) (start .pre .creep-is) (c .shrinkage-of .ensures)
+    (start .pre .friction-is) (rw (c .before .before .from-element .ensures) at (c .before .path-length .ensures))
+    (start .pre .kappa-is) (start .pre .creep-is) (c .shrinkage-of .ensures)
     (ages-length ages (drop (headFields + perSegment * segments) fields))
 
 pub member-of-spec : {M : Type 1} → statement M

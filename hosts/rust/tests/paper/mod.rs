@@ -296,7 +296,7 @@ pub struct AnchorSet {
 }
 
 impl AnchorSet {
-    /// The set along a path, with Es in psi and the slip in ticks; none "where d or P is 0".
+    /// The set along a path, with Es in psi and the slip in ticks; none "Where d or P is 0".
     fn along(path_length: u128, friction: u128, es: u128, slip: u128) -> Option<Self> {
         if friction == 0 || path_length == 0 {
             return None;

@@ -1,17 +1,16 @@
--- Z² times 3·path is at most 1024·d·Es·slip just where Z² is at most the quotient, which `product_over` gives in whole numbers and
--- 1,024th parts. Assumes nothing.
+-- Z² times 3·path is at most 1024·d·Es·slip just where Z² is at most the quotient, which is taken in whole 1,024s and 1,024th parts.
+-- Assumes nothing.
 use borrow.Author.Needs.{needs}
 use mathlib.Core.Path.{_≡_}
-use Prim.Native.Nat.{ℕ, suc, _+_, _-_, _*_, _/_, _%_, _^_, _≤_, _<_}
-use native.Mathlib.Nat.{div-lt-iff-lt-mul, div-le-of-le-mul, mod-lt, div-add-mod', mul-div-le, lt-mul-div-succ, mul-le-mul, mul-le-mul-left}
+use Prim.Native.Nat.{ℕ, suc, _+_, _-_, _*_, _/_, _%_, _≤_, _<_}
+use native.Mathlib.Nat.{div-lt-iff-lt-mul, mod-lt, div-add-mod', mul-div-le, lt-mul-div-succ, mul-le-mul, mul-le-mul-left}
 use native.Mathlib.Omega.{arith}
 use borrow.Author.Tests.{le-leb, lt-leb}
 use Rattle.ticks.specs.Ticks.{ticksPerUnit}
 use Rattle.formulas.specs.Steps.{IsDropAtJack, dropAtJack}
-use Rattle.formulas.specs.Conditions.{slipLimit, DropFits, QuotientFits}
+use Rattle.formulas.specs.Conditions.{stressLimit, esLimit, mostSlip, DropFits}
 use Rattle.formulas.specs.Roots.{Root}
 use Rattle.formulas.proofs.Drop.{one-drop}
-use Rattle.formulas.proofs.Products.{product as digits}
 use Rattle.formulas.proofs.anchor.drop_at_jack.Statement.{statement}
 use Rattle.formulas.proofs.anchor.drop_at_jack.Tie as tie
 
@@ -20,28 +19,22 @@ module _ {d es slip pathLength : ℕ} (fits : DropFits d es slip pathLength) whe
   abbrev divisor : ℕ
   divisor = 3 * pathLength
 
+  some-divisor : 1 ≤ divisor
+  some-divisor = omega (arith, fits .some-path)
+
   -- 1,024 times it over the divisor is Z² at the most
   abbrev product : ℕ
-  product = slip * (d * es)
+  product = d * es * slip
 
-  asked : QuotientFits slip (d * es) divisor
-  asked =
-      let most : d * es ≤ 2 ^ 53 = digits 28 25 {a = d} {b = es} (omega arith) (omega arith) in
-      let wholes : d * es / divisor ≤ 2 ^ 52 = div-le-of-le-mul divisor (omega (arith, most, fits .some-path)) in
-      record {
-        some-divisor = omega (arith, fits .some-path);
-        rest-fits = omega (arith, digits 12 30 {a = slip} {b = divisor} (omega arith) (omega arith));
-        whole-fits =
-            omega (
-              arith,
-              mul-le-mul {n₁ = slip} {m₁ = d * es / divisor + 1} {n₂ = slipLimit - 1} {m₂ = 2 ^ 52 + 1} (omega arith) (omega arith),
-            );
-      }
+  inner-most : d * es ≤ (stressLimit - 1) * (esLimit - 1)
+  inner-most = mul-le-mul {n₂ = stressLimit - 1} {m₂ = esLimit - 1} (omega arith) (omega arith)
+
+  product-most : product ≤ (stressLimit - 1) * (esLimit - 1) * mostSlip
+  product-most = mul-le-mul inner-most (fits .slip-most)
 
   parts-fit : ticksPerUnit * (product % divisor) / divisor < ticksPerUnit
   parts-fit =
-      let some = asked .some-divisor in
-      div-lt-iff-lt-mul some .1 (omega (arith, mod-lt product {m = divisor} some))
+      div-lt-iff-lt-mul some-divisor .1 (omega (arith, mod-lt product {m = divisor} some-divisor))
 
   module _ (z : ℕ) (root : Root (ticksPerUnit * (product / divisor) + ticksPerUnit * (product % divisor) / divisor) z) where
     is-drop : IsDropAtJack d es slip pathLength z
@@ -59,7 +52,7 @@ module _ {d es slip pathLength : ℕ} (fits : DropFits d es slip pathLength) whe
           (omega (
             arith,
             mul-le-mul-left divisor (root .passed),
-            lt-mul-div-succ (ticksPerUnit * (product % divisor)) (asked .some-divisor),
+            lt-mul-div-succ (ticksPerUnit * (product % divisor)) some-divisor,
             div-add-mod' product divisor,
           ));
     }
@@ -67,30 +60,23 @@ module _ {d es slip pathLength : ℕ} (fits : DropFits d es slip pathLength) whe
     found : z ≡ dropAtJack d es slip pathLength
     found = one-drop d es slip pathLength (fits .some-path) z is-drop
 
-mul-divisor : tie.Need-mul-divisor
-mul-divisor c = omega arith
+mul-product : tie.Need-mul-product
+mul-product c = omega (arith, inner-most (c .pre))
 
-mul-product-over : tie.Need-mul-product-over
-mul-product-over c = omega (arith, digits 28 25 {a = c .args .friction} {b = c .args .es} (omega arith) (omega arith))
-
-product-over-requires : tie.Need-product-over-requires
-product-over-requires c κs = asked (c .pre)
+mul-product-2 : tie.Need-mul-product-2
+mul-product-2 c = omega (arith, product-most (c .pre))
 
 mul-root-of-ticks : tie.Need-mul-root-of-ticks
-mul-root-of-ticks c =
-    let some = asked (c .before .before .pre) .some-divisor in
-    let rest = c .before .product-over .ensures .1 in
-    omega (arith, rest, mod-lt (product (c .before .before .pre)) some)
+mul-root-of-ticks c = omega (arith, mod-lt (product (c .pre)) (some-divisor (c .pre)))
 
 root-of-ticks-requires : tie.Need-root-of-ticks-requires
-root-of-ticks-requires c κs = rw (c .before .product-over .ensures .1) (parts-fit (c .before .before .pre))
+root-of-ticks-requires c κs = parts-fit (c .pre)
 
 returns : tie.Need-returns
-returns c =
-    let square = c .before .before .product-over .ensures in
-    found (c .before .before .before .pre) (c .root-of-ticks .result) (rw (square .0, square .1) at (c .root-of-ticks .ensures))
+returns c = found (c .before .pre) (c .root-of-ticks .result) (c .root-of-ticks .ensures)
 
 pub drop-at-jack-spec : {M : Type 1} → statement M
 drop-at-jack-spec =
     tie.close
-    (tie.spec mul-divisor mul-product-over product-over-requires mul-root-of-ticks (λ c. search needs) root-of-ticks-requires returns)
+    (tie.spec (λ c. omega arith) mul-product mul-product-2 (λ c. search needs) (λ c. search needs) mul-root-of-ticks (λ c. search needs)
+    root-of-ticks-requires returns)

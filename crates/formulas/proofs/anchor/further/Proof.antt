@@ -1,14 +1,19 @@
 -- The invariant: `reached` is in, and what lies `left` above it is not. The measure is `left`. Assumes nothing.
 use mathlib.Core.Logic.{⊎-elim}
 use Prim.Native.Nat.{ℕ, _+_, _*_, _/_, _≤_, _<_}
-use native.Mathlib.Nat.{mul-le-mul}
+use native.Mathlib.Nat.{mul-le-mul, mul-le-mul-right}
 use native.Mathlib.Omega.{arith}
+use Rattle.formulas.specs.Roots.{wordLimit, FurtherFits}
 use Rattle.formulas.proofs.anchor.further.Statement.{statement}
 use Rattle.formulas.proofs.anchor.further.Tie as tie
 
 -- the product rises with n
 grows : (root m n : ℕ) → m ≤ n → m * (2 * root + m) ≤ n * (2 * root + n)
 grows root m n h = mul-le-mul h (omega arith)
+
+-- a product of a number above 0 is no less than the other factor, which so fits as it does
+sum-fits : {root rest above : ℕ} → FurtherFits root rest above → 2 * root + above ≤ wordLimit
+sum-fits {root} {above = above} fits = omega (arith, fits .product-fits, mul-le-mul-right (2 * root + above) (fits .some))
 
 record Between (root rest above reached left : ℕ) : Type 0 where
   reaches : reached * (2 * root + reached) ≤ rest
@@ -24,6 +29,12 @@ abbrev μ-loop : tie.MeasureT-loop
 
 loop-holds : tie.Need-loop-holds Inv-loop μ-loop
 loop-holds c = record { reaches = omega arith; passes = omega arith; some = omega arith; within = omega arith }
+
+mul-if1 : tie.Need-mul-if1 Inv-loop μ-loop
+mul-if1 c = omega (arith, sum-fits (c .before .before .pre))
+
+add-if1 : tie.Need-add-if1 Inv-loop μ-loop
+add-if1 c = omega (arith, sum-fits (c .before .before .pre))
 
 mul-if1-2 : tie.Need-mul-if1-2 Inv-loop μ-loop
 mul-if1-2 c =
@@ -65,5 +76,5 @@ returns c =
 pub further-spec : {M : Type 1} → statement M
 further-spec =
     tie.close
-    (tie.spec Inv-loop μ-loop loop-holds (λ c. omega arith) (λ c. omega arith) (λ c. omega arith) mul-if1-2 (λ c. omega arith)
+    (tie.spec Inv-loop μ-loop loop-holds (λ c. omega arith) mul-if1 add-if1 mul-if1-2 (λ c. omega arith)
     (λ c. omega arith) loop-again returns)

@@ -8,7 +8,8 @@ use Rattle.member.proofs.Walk.{Sums, Walked, starts, here, walks, arriv
 use Rattle.member.proofs.path.path_friction.Statement.{statement}
 use Rattle.member.proofs.path.path_friction.Tie as tie
 
-sums : (wobble curvature : ℕ) → Sums (pathFriction wobble curvature) (λ segment. wobblePart wobble segment + curvaturePart curvature segment)
+sums : (wobble curvature : ℕ)
+    → Sums (pathFriction wobble curvature) (λ segment. wobblePart wobble segment + curvaturePart curvature segment)
 unfolding pathFriction
 sums wobble curvature = record { none = refl; one-more = λ segment segments. refl }
 

@@ -1,6 +1,6 @@
 -- The tests of the code are those of the definition, in the same order. Assumes nothing.
 use mathlib.Core.Path.{_≡_, sym, _∙_}
-use mathlib.Core.Bool.{true, false}
+use mathlib.Core.Bool.{true}
 use Prim.Native.Nat.{_≤_}
 use native.Mathlib.Omega.{arith}
 use borrow.Author.Needs.{needs}
@@ -31,7 +31,7 @@ drop-at-jack-requires c κs =
     record {
       d-fits = omega (arith, start .pre .friction-is);
       es-fits = start .pre .member .es-fits;
-      slip-fits = start .pre .member .slip-fits;
+      slip-most = start .pre .member .slip-most;
       some-path = some-path c;
       path-fits = start .pre .member .path-fits;
     }
@@ -48,7 +48,8 @@ passes-tendon-requires c κs =
 returns : tie.Need-returns
 returns c =
     let tested = c .before in
-    sym (beyond-the-tendon (tested .before .before .before .before .args .m) (spread (tested .before .before)) (sym (affected tested) ∙ c .if2 .taken))
+    let start = tested .before .before .before .before in
+    sym (beyond-the-tendon (start .args .m) (spread (tested .before .before)) (sym (affected tested) ∙ c .if2 .taken))
 
 drop-at-section-requires : tie.Need-drop-at-section-requires
 drop-at-section-requires c κs = omega (arith, c .before .before .before .before .before .pre .friction-is)
@@ -64,8 +65,10 @@ returns-2 c =
 returns-3 : tie.Need-returns-3
 returns-3 c =
     let tested = c .before .before in
+    let start = tested .before in
     rw (c .slip-loss .ensures)
-    (sym (over-the-tendon (tested .before .args .m) (rw (tested .before .pre .friction-is) at (sym (tested .dies-out .ensures) ∙ c .before .if1 .left))))
+    (sym
+    (over-the-tendon (start .args .m) (rw (start .pre .friction-is) at (sym (tested .dies-out .ensures) ∙ c .before .if1 .left))))
 
 pub slip-at-section-spec : {M : Type 1} → statement M
 slip-at-section-spec =
