@@ -1,5 +1,5 @@
 """What the C hosts take from tools/paper.py: the members that they run, the text that hosts/c/example.c must print, and the header's
-numbers.
+numbers and refusals.
 """
 import re
 from pathlib import Path
@@ -88,8 +88,17 @@ def hold_numbers(checks, longest):
         checks.hold(numbers.get(name) == due, "STRATELYN_%s in include/stratelyn.h is %d" % (name, due))
 
 
+def hold_refusals(checks):
+    """The header has every refusal by its number, and no other."""
+    (cases,) = re.findall(r"enum stratelyn_refusal \{(.*?)\};", HEADER.read_text(), re.DOTALL)
+    numbers = {name: int(number) for name, number in re.findall(r"STRATELYN_(\w+) = (\d+)", cases)}
+    due = {"ACCEPTED": paper.ACCEPTED[0], **{refusal.name: refusal.value for refusal in paper.Refusal}}
+    checks.hold(numbers == due, "the refusals in include/stratelyn.h are %s" % due)
+
+
 def hold(checks, sample, longest):
     checks.file(HOSTS / "sample.h", member_text("SAMPLE", "Document 01's sample beam", sample).encode())
     checks.file(HOSTS / "longest.h", member_text("LONGEST", "The longest card that is accepted", longest).encode())
     checks.file(HOSTS / "example.out", example_text(sample).encode())
     hold_numbers(checks, longest)
+    hold_refusals(checks)
