@@ -83,4 +83,5 @@ marked = record {
   drop-49132 = drop;
   slip-reaches-passes = slip-reaches;
   slip-beyond-refused = slip-beyond;
+  slip-beyond-keeps-scratch = refl;
 }

@@ -1,6 +1,7 @@
 -- The theorem `marked` rests on it. The readings that document 01 marks ★, and its edges, in the order of its "Sample beam", and the edges
 -- of document 02's 11 and 12: one list of what the definitions of the other crates give, to be held beside the papers.
 use Prim.Native.Nat.{ℕ, zero, suc, _+_, _-_, _*_, _^_, _≤_}
+use mathlib.Core.Bool.{false}
 use mathlib.Core.List.{List, [], _∷_, _++_}
 use mathlib.Core.Path.{_≡_}
 use Rattle.ticks.specs.declared.Amount.{Amount}
@@ -12,7 +13,8 @@ use Rattle.coefficient.specs.Coefficients.{scf, mcf, creepShare}
 use Rattle.fields.specs.Outcomes.{accepted, OrRefusal, Gives, Refuses}
 use Rattle.card.specs.Card.{cardOutcome}
 use Rattle.fields.specs.Quantities.{Quantities, Segment, Age, parabola, quantitiesRead}
-use Rattle.fields.specs.Refusals.{number, place}
+use Rattle.fields.specs.declared.refusal.Refusal.{Refusal}
+use Rattle.fields.specs.Refusals.{number, place, mayAlterScratch}
 use Rattle.formulas.specs.Steps.{dropAtJack}
 use Rattle.member.specs.Constants.{pathFriction}
 use Rattle.member.specs.declared.Member.{Member}
@@ -247,3 +249,5 @@ pub record Marked : Type 0 where
   pub drop-49132 : dropAtJack 24566 29479201 1 102400 ≡ 2 * 24566
   pub slip-reaches-passes : numberAndPlace (resultOfCard (withAnchorSet 102400) 15) ≡ 0 ∷ 0 ∷ []
   pub slip-beyond-refused : numberAndPlace (resultOfCard (withAnchorSet 102399) 15) ≡ 12 ∷ 7 ∷ []
+  -- "refusal 7 alone may alter the scratch", and 11: not 12
+  pub slip-beyond-keeps-scratch : mayAlterScratch Refusal.AnchorSet ≡ false

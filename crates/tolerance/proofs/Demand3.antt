@@ -245,8 +245,8 @@ demand-3 q report scratch few-segments few-ages facts given result =
     record {
       narrow = λ factor factors. close facts few-segments few-ages began ran narrow-allowance factors;
       wide = λ choice admissible. close facts few-segments few-ages began ran (wide-allowance admissible) (admissible .factors);
-      slip-exact = slips-exactly began;
       some-factors = some-factors facts few-segments few-ages began ran;
+      slip-exact = slips-exactly began;
       falls = falls facts few-segments few-ages began ran;
       rises = ages-rise facts ran;
       closes = closes facts few-segments few-ages began ran;

@@ -82,7 +82,8 @@ exactStresses choice q before =
 abbrev pub countedAtSlip : Quantities → BeforeAges → ℕ
 countedAtSlip q before = cond (slipDiesOut q before) 0 (suc (length (q .path)))
 
--- the steps that are counted after the step at this place, from 0: "through friction" all of them, and then those from slip on
+-- the steps that are counted after the one at this place of the lists, the first being 0: "through friction" all so far, and then what is
+-- counted at slip and each step after it
 abbrev pub counted : Quantities → BeforeAges → ℕ → ℕ
 counted q before place =
     cond (ltb place (length (q .path))) (suc place) (countedAtSlip q before + (place - length (q .path)))
@@ -170,9 +171,10 @@ pub record Linked (q : Quantities) (report : Report) : Type 0 where
 pub record Demand3 (q : Quantities) (report : Report) : Type 0 where
   pub narrow : (factor : ℕ → Fraction) → FactorsAlong q factor → Close narrowStep (tableChoice factor) q report
   pub wide : (choice : Choice) → Admissible q choice → Close wideStep choice q report
-  pub slip-exact : slipDiesOut q (report .before) ≡ true → SlipIsExact q (report .before)
   -- there are such factors: the sums up to the 15th power
   pub some-factors : FactorsAlong q (λ j. sumTo powers (exponentAlong q j))
+  -- document 02, W5: "Z itself is exact by its two squares"
+  pub slip-exact : slipDiesOut q (report .before) ≡ true → SlipIsExact q (report .before)
   pub falls : Falls (jacked q) (ticksAlong q (q .path) ∷ coreAfterPath q (report .before))
   pub rises : EachRisesByGain q (q .ownWeightMoment) (report .before .stress) (q .ages) (report .rows)
   pub closes :
