@@ -66,7 +66,7 @@ pub fn drop_at_jack(friction: u64, es: u64, slip: u64, path_length: u64) -> u64
     )
 }
 
-// Whether the slip reaches beyond the tendon's length. Z·path may need more than 64 bits, so the other side is divided.
+// Whether the slip reaches beyond the tendon's length. The other side is divided, so that Z by the path need not fit.
 pub fn passes_tendon(drop: u64, friction: u64, path_length: u64, length: u64) -> bool
     requires { ⌜ AffectedFits friction «path_length» length ⌝ }
     ensures { λ r. ⌜ r ≡ passesTendon drop friction «path_length» length ⌝ }

@@ -56,7 +56,7 @@ pathFriction wobble curvature [] = 0
 pathFriction wobble curvature (segment ∷ segments) =
     wobblePart wobble segment + curvaturePart curvature segment + pathFriction wobble curvature segments
 
--- document 02, W5: "path length P", in ticks of foot; "3 bend (length 0": a bend adds none
+-- document 02, W5: "path length P", in ticks of foot; "3 bend (length 0, ..": a bend adds none
 unfoldable pub pathLength : List Segment → ℕ
 pathLength [] = 0
 pathLength (segment ∷ segments) = segment .length + pathLength segments
