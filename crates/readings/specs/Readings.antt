@@ -1,7 +1,7 @@
 -- The theorem `marked` rests on it. The readings that document 01 marks ★, and its edges, in the order of its "Sample beam", and the edges
 -- of document 02's 11 and 12: one list of what the definitions of the other crates give, to be held beside the papers.
 use Prim.Native.Nat.{ℕ, zero, suc, _+_, _-_, _*_, _^_, _≤_}
-use mathlib.Core.Bool.{false}
+use mathlib.Core.Bool.{true, false}
 use mathlib.Core.List.{List, [], _∷_, _++_}
 use mathlib.Core.Path.{_≡_}
 use Rattle.ticks.specs.declared.Amount.{Amount}
@@ -15,7 +15,7 @@ use Rattle.card.specs.Card.{cardOutcome}
 use Rattle.fields.specs.Quantities.{Quantities, Segment, Age, parabola, quantitiesRead}
 use Rattle.fields.specs.declared.refusal.Refusal.{Refusal}
 use Rattle.fields.specs.Refusals.{number, place, mayAlterScratch}
-use Rattle.formulas.specs.Steps.{dropAtJack}
+use Rattle.formulas.specs.Steps.{diesOut, dropAtJack}
 use Rattle.member.specs.Constants.{pathFriction}
 use Rattle.member.specs.declared.Member.{Member}
 use Rattle.member.specs.Member.{frictionOf, memberOf}
@@ -244,7 +244,11 @@ pub record Marked : Type 0 where
       ∷ (3 ∷ 438000 ∷ 0 ∷ 1479475 ∷ 6060330 ∷ 105474480 ∷ 0 ∷ []) ∷ [])
   pub gain-above : 100 * firstLiftedOf passing ≡ 80 * 150000 * 1024 + 100
   pub gain-above-refused : numberAndPlace (resultOfCard passing 15) ≡ 11 ∷ 1 ∷ []
-  -- document 02, W5: "12 when the affected length Z·P/(2d) passes the tendon length", place 7. Z is just twice the friction, so that the
+  -- document 02, W5: "Where d or P is 0 the old rule stays", and from a tick of each on it does not
+  pub no-friction : diesOut 0 1 ≡ false
+  pub no-length : diesOut 1 0 ≡ false
+  pub tick-of-each : diesOut 1 1 ≡ true
+  -- "12 when the affected length Z·P/(2d) passes the tendon length", place 7. Z is just twice the friction, so that the
   -- affected length is that of the path, 102,400 ticks: it may be that of the tendon, and not a tick more
   pub drop-49132 : dropAtJack 24566 29479201 1 102400 ≡ 2 * 24566
   pub slip-reaches-passes : numberAndPlace (resultOfCard (withAnchorSet 102400) 15) ≡ 0 ∷ 0 ∷ []

@@ -25,13 +25,13 @@ module _ (m : Member) where
   passes = passesTendon z d (m .«path_length») (m .length)
 
   pub over-the-tendon : dies ≡ false → slipOf m ≡ Gives (slipLoss (m .es) (m .slip) (m .length))
-  over-the-tendon not = rw not
+  over-the-tendon not = rw not refl
 
   pub beyond-the-tendon : dies ≡ true → passes ≡ true → slipOf m ≡ Refuses AnchorSet
-  beyond-the-tendon so far = rw (so, far)
+  beyond-the-tendon so far = rw (so, far) refl
 
   pub at-the-section : dies ≡ true → passes ≡ false → slipOf m ≡ Gives (dropAtSection z d)
-  at-the-section so near = rw (so, near)
+  at-the-section so near = rw (so, near) refl
 
   -- ---- a slip that is given
 

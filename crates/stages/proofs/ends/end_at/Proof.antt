@@ -1,4 +1,5 @@
 -- Each clock is read where the definition reads it. Assumes nothing.
+use mathlib.Core.Path.{refl}
 use borrow.Author.Needs.{needs}
 use Rattle.stages.proofs.ends.end_at.Statement.{statement}
 use Rattle.stages.proofs.ends.end_at.Tie as tie
@@ -45,6 +46,7 @@ returns c =
       c .relaxation-logarithm .ensures,
       c .before .since-tensioning .ensures,
     )
+    refl
 
 pub end-at-spec : {M : Type 1} → statement M
 end-at-spec =

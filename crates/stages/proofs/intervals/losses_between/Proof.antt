@@ -1,5 +1,6 @@
 -- Each share and the logarithms are differences of the interval's ends, no more than what stands at the later, so that every loss has
 -- its bounds. Assumes nothing.
+use mathlib.Core.Path.{refl}
 use borrow.Author.Needs.{needs}
 use Prim.Native.Nat.{_<_}
 use Rattle.stages.proofs.intervals.losses_between.Statement.{statement}
@@ -46,6 +47,7 @@ returns c =
       readings .before .before .difference .ensures,
       readings .before .before .before .concrete-stress .ensures,
     )
+    refl
 
 pub losses-between-spec : {M : Type 1} → statement M
 losses-between-spec =

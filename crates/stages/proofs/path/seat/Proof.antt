@@ -1,7 +1,7 @@
 -- Each answer follows from what the two calls of `after` and that of `slip_at_section` gave, which the definition looks at in the same
 -- order. Assumes nothing.
 use borrow.Author.Needs.{needs}
-use mathlib.Core.Path.{_≡_, sym, ap, _∙_}
+use mathlib.Core.Path.{_≡_, refl, sym, ap, _∙_}
 use Rattle.fields.specs.Outcomes.{Gives}
 use Rattle.fields.specs.Given.{numberGiven}
 use Rattle.stages.proofs.path.seat.Statement.{statement}
@@ -29,13 +29,13 @@ returns : tie.Need-returns
 unfolding seated
 returns c =
     let reached = c .before .before .before in
-    rw (sym (friction-leaves reached) ∙ ap numberGiven (c .before .refusal .given .1))
+    rw (sym (friction-leaves reached) ∙ ap numberGiven (c .before .refusal .given .1)) refl
 
 returns-2 : tie.Need-returns-2
 unfolding seated
 returns-2 c =
     let reached = c .before .before .before in
-    rw (rubbed-is (reached .before), sym (reached .slip-at-section .ensures) ∙ ap numberGiven (c .before .refusal2 .given .1))
+    rw (rubbed-is (reached .before), sym (reached .slip-at-section .ensures) ∙ ap numberGiven (c .before .refusal2 .given .1)) refl
 
 returns-3 : tie.Need-returns-3
 unfolding seated
@@ -49,6 +49,7 @@ returns-3 c =
       slip-is slipped,
       sym (reached .after2 .ensures) ∙ ap numberGiven (c .before .stress .given .1),
     )
+    refl
 
 returns-4 : tie.Need-returns-4
 unfolding seated
@@ -60,6 +61,7 @@ returns-4 c =
       slip-is slipped,
       sym (reached .after2 .ensures) ∙ ap numberGiven (c .before .refusal3 .given .1),
     )
+    refl
 
 pub seat-spec : {M : Type 1} → statement M
 seat-spec =
