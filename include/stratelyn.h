@@ -25,7 +25,7 @@ extern "C" {
 #define STRATELYN_FIELDS_PER_SEGMENT 3
 #define STRATELYN_FIELDS_PER_AGE 2
 #define STRATELYN_MOST_SEGMENTS 64
-#define STRATELYN_MOST_AGES 64
+#define STRATELYN_MOST_AGES 48
 
 /* The fields of the longest card or list, and the lines of the longest card: each segment and each age has one. */
 #define STRATELYN_MOST_FIELDS \

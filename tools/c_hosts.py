@@ -1,5 +1,5 @@
-"""What the C hosts take from tools/paper.py: the members that they run, the text that hosts/c/example.c must print, and the header's
-numbers and refusals.
+"""What the C hosts take from tools/paper.py: the members that they run, the text that hosts/c/example.c must print, the header's numbers,
+which the Rust wrapper and the integrators' page have from there, and its refusals.
 """
 import re
 from pathlib import Path
@@ -10,7 +10,24 @@ import paper
 ROOT = Path(__file__).resolve().parent.parent
 HOSTS = ROOT / "hosts" / "c"
 HEADER = ROOT / "include" / "stratelyn.h"
+INTEGRATION = ROOT / "docs" / "INTEGRATION.md"
 BYTES_OF_NUMBER = 8
+
+# The header's plain numbers, by their names without STRATELYN_.
+PLAIN_NUMBERS = {
+    "BYTES_PER_NUMBER": BYTES_OF_NUMBER,
+    "NUMBERS_PER_REPLY": len(("place", *paper.BEFORE_AGES, "last stress")),
+    "NUMBERS_PER_AGE": paper.REPORT_NUMBERS_OF_AGE,
+    "COLUMNS_PER_FIELD": paper.COLUMNS,
+    "HEAD_LINES": len(paper.LINES),
+    "HEAD_FIELDS": len(paper.HEAD),
+    "FIELDS_PER_SEGMENT": len(paper.SEGMENT),
+    "FIELDS_PER_AGE": len(paper.AGE),
+    "MOST_SEGMENTS": paper.MOST_SEGMENTS,
+    "MOST_AGES": paper.MOST_AGES,
+    "TICKS_PER_PSI": paper.TICKS,
+    "BLANK_SLIP": paper.field_of("slip").blank,
+}
 
 MEMBER = """/* %(what)s, as the text of a card and as a list of doubles. tools/stored_answers.py --write writes it. */
 #ifndef %(guard)s_H
@@ -59,6 +76,14 @@ def example_text(card):
     return "card: " + run + "list: " + run + "cut card: refused %d at %d\n" % refusal
 
 
+def header_text():
+    """The header with the plain numbers that are due."""
+    text = HEADER.read_text()
+    for name, number in PLAIN_NUMBERS.items():
+        text = re.sub(r"(#define STRATELYN_%s) \d+" % name, r"\1 %d" % number, text)
+    return text
+
+
 def header_numbers():
     """The header's numbers, by their names without STRATELYN_. A number may be computed from those above it."""
     numbers = {}
@@ -68,24 +93,26 @@ def header_numbers():
 
 
 def hold_numbers(checks, longest):
-    """The header's numbers are those of the table of fields, of the longest card, and of the room of an age."""
+    """The header has every plain number, and computes from them the sizes that the longest card and list have, and reply and age."""
+    checks.file(HEADER, header_text().encode())
     numbers = header_numbers()
-    for name, due in (
-        ("COLUMNS_PER_FIELD", paper.COLUMNS),
-        ("HEAD_LINES", len(paper.LINES)),
-        ("HEAD_FIELDS", len(paper.HEAD)),
-        ("FIELDS_PER_SEGMENT", len(paper.SEGMENT)),
-        ("FIELDS_PER_AGE", len(paper.AGE)),
-        ("MOST_SEGMENTS", paper.MOST_SEGMENTS),
-        ("MOST_AGES", paper.MOST_AGES),
-        ("BYTES_PER_AGE", BYTES_OF_NUMBER * paper.REPORT_NUMBERS_OF_AGE),
-        ("REPLY_BYTES", BYTES_OF_NUMBER * len(("place", *paper.BEFORE_AGES, "last stress"))),
-        ("MOST_CARD_BYTES", len(longest)),
-        ("MOST_LIST_BYTES", BYTES_OF_NUMBER * len(sum(layout.list_of(longest), []))),
-        ("TICKS_PER_PSI", paper.TICKS),
-        ("BLANK_SLIP", paper.field_of("slip").blank),
-    ):
+    sizes = {
+        "REPLY_BYTES": BYTES_OF_NUMBER * PLAIN_NUMBERS["NUMBERS_PER_REPLY"],
+        "BYTES_PER_AGE": BYTES_OF_NUMBER * paper.REPORT_NUMBERS_OF_AGE,
+        "MOST_REPORT_BYTES": BYTES_OF_NUMBER * paper.MOST_REPORT_ROOM,
+        "MOST_CARD_BYTES": len(longest),
+        "MOST_LIST_BYTES": BYTES_OF_NUMBER * len(sum(layout.list_of(longest), [])),
+    }
+    for name, due in {**PLAIN_NUMBERS, **sizes}.items():
         checks.hold(numbers.get(name) == due, "STRATELYN_%s in include/stratelyn.h is %d" % (name, due))
+
+
+def hold_sizes(checks):
+    """The integrators' page has the header's sizes."""
+    sizes = re.findall(r"\| `STRATELYN_(\w+)` \| ([\d,]+) \|", INTEGRATION.read_text())
+    checks.hold(sizes, "docs/INTEGRATION.md has a table of sizes")
+    for name, size in sizes:
+        checks.hold(header_numbers().get(name) == int(size.replace(",", "")), "STRATELYN_%s in docs/INTEGRATION.md" % name)
 
 
 def hold_refusals(checks):
@@ -101,4 +128,5 @@ def hold(checks, sample, longest):
     checks.file(HOSTS / "longest.h", member_text("LONGEST", "The longest card that is accepted", longest).encode())
     checks.file(HOSTS / "example.out", example_text(sample).encode())
     hold_numbers(checks, longest)
+    hold_sizes(checks)
     hold_refusals(checks)

@@ -34,6 +34,9 @@ OLDER_SLIP = 256
 # The largest X that passed up to document 02's W3, 0.3 T.
 OLDER_MOST_X = 3 * T // 10
 
+# The most ages up to document 02's W6.
+OLDER_MOST_AGES = 64
+
 
 def card(base, path=(), loads=AGES, /, **changes):
     """A card with a base's head, its counts those of path and loads, and then some fields changed."""
@@ -255,6 +258,10 @@ def long_cards():
     yield "pretensioned, %d ages" % MOST_AGES, card(PRE, (), [Age(hour, 50 * i) for i, hour in enumerate(hours)])
 
 
+def last_line_missing(text):
+    return text[: -(COLUMNS * len(AGE) + len(LINE_FEED))]
+
+
 def with_columns(text, name, columns):
     """A card with a field's columns replaced."""
     start = start_of(name)
@@ -270,7 +277,7 @@ def shape():
     yield "a line feed more", good + LINE_FEED
     yield "a space more", good + b" "
     yield "last line feed missing", good[: -len(LINE_FEED)]
-    yield "last line missing", good[: -(COLUMNS * len(AGE) + len(LINE_FEED))]
+    yield "last line missing", last_line_missing(good)
     yield "a space behind a digit", with_columns(good, "ultimate_strength", good[start:][: COLUMNS - 1] + b" ")
     # A count out of range before a column that is no digit, on one line.
     label = "%d segments and a letter in the count of ages" % (MOST_SEGMENTS + 1)
@@ -553,9 +560,26 @@ def refusals_at_slip():
     yield "%d psi left by slip along a path, not by the first age" % least, card(less_es(under), path)
 
 
+def too_many_ages():
+    """A count of ages past the most, with what is wrong before it, beside it and behind it; and the most, with a line too few or too many."""
+    over = MOST_AGES + 1
+    text, ages = card(POST, (), ages_of(over)), "%d ages, " % over
+    yield "%d ages, a card of up to W6" % OLDER_MOST_AGES, card(POST, (), ages_of(OLDER_MOST_AGES))
+    yield ages + "a letter in the count of segments", card(POST, (), ages_of(over), segments="x")
+    yield ages + "%d segments" % (MOST_SEGMENTS + 1), card(POST, (), ages_of(over), segments=MOST_SEGMENTS + 1)
+    yield ages + "a kind that is not listed", card(POST, (), ages_of(over), kind=0)
+    yield ages + "last line feed missing", text[: -len(LINE_FEED)]
+    yield ages + "no line behind the count", card(POST, (), (), ages=over)
+    yield "as many ages as fill the columns", card(POST, (), (), ages=10**COLUMNS - 1)
+    most, ages = card(POST, (), ages_of(MOST_AGES)), "%d ages, " % MOST_AGES
+    yield ages + "last line missing", last_line_missing(most)
+    yield ages + "a line more", card(POST, (), ages_of(over), ages=MOST_AGES)
+
+
 PARTS = (
     ranges, counts, codes, segments, moments, hours, duct, section_and_creep, stress, long_cards, shape, gains, blank_slips, long_ducts,
     anchored_girder, old_slips, whole_root, path_lengths, tick_of_friction, affected_lengths, refusals_at_slip,
+    too_many_ages,
 )
 
 

@@ -4,7 +4,7 @@ use libc::STDOUT_FILENO;
 use text::MOST_READ_BYTES;
 use text::MOST_TEXT_BYTES;
 
-const CARDS: usize = 430;
+const CARDS: usize = 439;
 
 const ZERO: u8 = b'0';
 

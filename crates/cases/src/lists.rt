@@ -2,9 +2,10 @@
 // as the 16 hexadecimal digits of its bits, then its answer, which is passed over.
 ghost use Prim.Native.Nat.{_<_};
 use crate::answers::print_list;
+use fields::limits::MOST_FIELDS;
 
-// The longest list that is kept; doubles past it are ignored. A good list has at most 344.
-const MOST_DOUBLES: usize = 400;
+// One more than the longest good list has. Doubles past it are ignored: a list of more has a wrong length, and so have its first doubles.
+const MOST_DOUBLES: usize = MOST_FIELDS + 1;
 
 // Reads of lists.txt at most.
 const MOST_READS: usize = 65536;

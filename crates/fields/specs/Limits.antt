@@ -70,7 +70,7 @@ blankSlip = 384
 abbrev pub leastMoistTransfer : ℕ
 leastMoistTransfer = 72
 
--- "23 segments s 0..64; 24 ages n 3..64"
+-- "23 segments s 0..64; 24 ages n" from 3 to 48 (document 02, W6: "The limit becomes 48")
 abbrev pub mostSegments : ℕ
 mostSegments = 64
 
@@ -78,7 +78,7 @@ abbrev pub leastAges : ℕ
 leastAges = 3
 
 abbrev pub mostAges : ℕ
-mostAges = 64
+mostAges = 48
 
 abbrev pub agesOutOfRange : ℕ → Bool
 agesOutOfRange ages = ltb ages leastAges || ltb mostAges ages

@@ -83,7 +83,7 @@ pub const MOST_SEGMENTS: usize = 64;
 
 pub const LEAST_AGES: usize = 3;
 
-pub const MOST_AGES: usize = 64;
+pub const MOST_AGES: usize = 48;
 
 pub const MOST_FIELDS: usize = HEAD_FIELDS + PER_SEGMENT * MOST_SEGMENTS + PER_AGE * MOST_AGES;
 

@@ -1,5 +1,5 @@
--- What a list gives is what its doubles give with infinity for each NaN, and what its first 345 doubles give: both readings of
--- a double refuse the two alike, and a list of more doubles than a list can have fields is refused with any length.
+-- What a list gives is what its doubles give with infinity for each NaN, and what its first doubles give, one more than a list can have
+-- fields: both readings of a double refuse the two alike, and a list of more doubles than it can have fields is refused with any length.
 -- Assumes nothing.
 use mathlib.Core.Path.{_≡_, refl, sym, ap, _∙_}
 use mathlib.Core.Bool.{Bool, true, false, false≢true, cond}
@@ -82,7 +82,7 @@ same-doubles numbers = by (countsIn (map standsFor numbers)) ∙ rw (same-counts
     by (Not refusal) = refl
     by (Fields segments ages) = rw (same-amounts segments 1 numbers)
 
--- ---- the first 345 doubles
+-- ---- the first doubles, one more than a list can have fields
 
 -- the counts of a list of more doubles than a list can have fields
 abbrev tooLong : Amount → Amount → Reading
@@ -181,7 +181,7 @@ same-list count list =
     ∙ first-doubles (map standsFor (numbersFrom count list))
     ∙ same-doubles (numbersFrom count list)
 
--- so many doubles as the list holds, up to 345, at the front of 345
+-- so many doubles as the list holds, up to one more than the most fields, at the front of that many
 module _ (list : List ℕ) (doubles : List Float) (count : ℕ)
     (is : count ≡ min (room (length list)) mostDoubles) (all : length doubles ≡ mostDoubles) where
   pub front-length : length (take count doubles) ≡ count

@@ -30,19 +30,19 @@ unfolding firstColumns agesText reportText linesOf fieldsOf hourly cardOutcome d
     shrinkageShare pathFriction pathLength factor ticksOf magnitude
 computed = tt
 
--- the longest run, by itself: its 128 logarithms take most of the steps that a declaration may take
-sixty-four-ages : numberAndPlace (resultOfCard (withAges 64) 320) ≡ 0 ∷ 0 ∷ []
+-- the run of the most ages, by itself: its logarithms take most of the steps that a declaration may take
+most-ages : numberAndPlace (resultOfCard (withAges 48) 48) ≡ 0 ∷ 0 ∷ []
 unfolding computed
-sixty-four-ages = refl
+most-ages = refl
 
 drop : dropAtJack 24566 29479201 1 102400 ≡ 49132
 drop = sym (one-drop 24566 29479201 1 102400 (lit≤ tt) 49132 (record { covered = refl; next-not-covered = refl }))
 
-slip-reaches : numberAndPlace (resultOfCard (withAnchorSet 102400) 15) ≡ 0 ∷ 0 ∷ []
+slip-reaches : numberAndPlace (resultOfCard (withAnchorSet 102400) 3) ≡ 0 ∷ 0 ∷ []
 unfolding computed
 slip-reaches = rw drop refl
 
-slip-beyond : numberAndPlace (resultOfCard (withAnchorSet 102399) 15) ≡ 12 ∷ 7 ∷ []
+slip-beyond : numberAndPlace (resultOfCard (withAnchorSet 102399) 3) ≡ 12 ∷ 7 ∷ []
 unfolding computed
 slip-beyond = rw drop refl
 
@@ -74,8 +74,8 @@ marked = record {
   X-25165824-passes = refl;
   X-25165825 = refl;
   X-25165825-refused = refl;
-  ages-64 = sixty-four-ages;
-  ages-65 = refl;
+  ages-48 = most-ages;
+  ages-49 = refl;
   gain-reaches = refl;
   gain-reaches-passes = refl;
   gain-above = refl;

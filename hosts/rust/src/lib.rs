@@ -34,21 +34,22 @@ mod core {
     }
 }
 
-/// Ticks to a psi.
-pub const TICKS_PER_PSI: f64 = 1024.0;
+/// The plain numbers of include/stratelyn.h, by their names there.
+#[allow(dead_code)]
+mod header {
+    include!(concat!(env!("OUT_DIR"), "/header.rs"));
+}
+use header::{BYTES_PER_NUMBER, COLUMNS_PER_FIELD, NUMBERS_PER_AGE, NUMBERS_PER_REPLY};
 
-/// Bytes of a number; the numbers of a reply, and of an age in report and scratch.
-const BYTES_OF_NUMBER: usize = 8;
-const NUMBERS_OF_REPLY: usize = 8;
-const NUMBERS_OF_AGE: usize = 5;
+/// Ticks to a psi.
+pub const TICKS_PER_PSI: f64 = header::TICKS_PER_PSI as f64;
 
 /// The most ages that a member has, the bytes of an age in report and scratch, and those of a reply.
-pub const MOST_AGES: usize = 64;
-pub const BYTES_PER_AGE: usize = BYTES_OF_NUMBER * NUMBERS_OF_AGE;
-pub const REPLY_BYTES: usize = BYTES_OF_NUMBER * NUMBERS_OF_REPLY;
+pub const MOST_AGES: usize = header::MOST_AGES;
+pub const BYTES_PER_AGE: usize = BYTES_PER_NUMBER * NUMBERS_PER_AGE;
+pub const REPLY_BYTES: usize = BYTES_PER_NUMBER * NUMBERS_PER_REPLY;
 
-/// Columns of a card's field, the fields of its lines 1, 2 and 3, and which one of line 4 counts the ages.
-const COLUMNS: usize = 14;
+/// The fields of a card's lines 1, 2 and 3, and which one of line 4 counts the ages.
 const FIELDS_OF_LINES: [usize; 3] = [7, 6, 5];
 const AGES_ON_LINE_4: usize = 6;
 
@@ -135,7 +136,7 @@ pub struct Run {
 }
 
 fn number(bytes: &[u8], at: usize) -> u64 {
-    u64::from_le_bytes(bytes[BYTES_OF_NUMBER * at..][..BYTES_OF_NUMBER].try_into().expect("eight bytes"))
+    u64::from_le_bytes(bytes[BYTES_PER_NUMBER * at..][..BYTES_PER_NUMBER].try_into().expect("eight bytes"))
 }
 
 fn psi(ticks: u64) -> f64 {
@@ -172,8 +173,8 @@ fn run(call: impl Fn(&mut [u8], &mut [u8], &mut [u8]) -> u64, ages: impl Fn() ->
 
 /// How many ages an accepted card has. A line feed ends each line before.
 fn ages_of_card(card: &[u8]) -> usize {
-    let start = COLUMNS * FIELDS_BEFORE_AGES + FIELDS_OF_LINES.len();
-    std::str::from_utf8(&card[start..start + COLUMNS]).ok().and_then(|text| text.trim().parse().ok()).unwrap_or(0)
+    let start = COLUMNS_PER_FIELD * FIELDS_BEFORE_AGES + FIELDS_OF_LINES.len();
+    std::str::from_utf8(&card[start..start + COLUMNS_PER_FIELD]).ok().and_then(|text| text.trim().parse().ok()).unwrap_or(0)
 }
 
 /// Runs a card, as text. A blank slip reads 384 ticks, 3/8 inch; where the wedges draw in 1/4 inch, as older ones do, write 256.

@@ -124,8 +124,17 @@ fn head(r: &mut Random) -> Vec<u64> {
     if kind == PRETENSIONED || r.one_in(6) {
         set(Segments, 0);
     }
-    set(Ages, if r.one_in(8) { MOST_AGES } else { r.between(LEAST_AGES, 12) });
+    set(Ages, ages(r));
     fields
+}
+
+/// How many ages a member has. At times they are too many, each with its line.
+fn ages(r: &mut Random) -> u64 {
+    match r.below(32) {
+        0..=3 => MOST_AGES,
+        4 => r.between(MOST_AGES + 1, MOST_AGES + 16),
+        _ => r.between(LEAST_AGES, 12),
+    }
 }
 
 /// The fields of a member that is often accepted.
@@ -360,10 +369,12 @@ impl Case {
     }
 }
 
-/// How many cases gave each answer, how many accepted ones are of each kind below, and how many set their anchor along a duct.
+/// How many cases gave each answer, and how many are of each kind below.
 #[derive(Default)]
 struct Tally {
     answers: [usize; ANSWERS],
+    most_ages: usize,
+    ages_out_of_range: usize,
     gains: usize,
     long_ducts: usize,
     slips_by_tendon_length: usize,
@@ -378,6 +389,8 @@ impl Tally {
         let (due, sets) = (&case.answer.due, case.sets_along_duct());
         let accepted = |kind: &dyn Fn(&Run) -> bool| usize::from(due.as_ref().is_ok_and(kind));
         self.answers[due.as_ref().err().map_or(0, |&(number, _)| number as usize)] += 1;
+        self.most_ages += accepted(&|run| run.rows.len() == MOST_AGES as usize);
+        self.ages_out_of_range += usize::from(*due == Err((refused::RANGE, Ages.number() as u64)));
         self.gains += accepted(&Run::gains);
         self.long_ducts += accepted(&Run::long_duct);
         self.slips_by_tendon_length += accepted(&|run| !sets && run.has_duct() && run.slips_at_section());
@@ -395,6 +408,8 @@ impl Tally {
             assert!(*count >= LEAST_COUNT, "answer {number} came up {count} times");
         }
         for (kind, count, least) in [
+            ("accepted with the most ages", self.most_ages, LEAST_COUNT),
+            ("refused with 2 at the count of ages", self.ages_out_of_range, LEAST_COUNT),
             ("accepted with a gain", self.gains, LEAST_COUNT),
             ("accepted with a long duct", self.long_ducts, LEAST_COUNT),
             ("accepted with a duct but no friction or no length, and a slip", self.slips_by_tendon_length, LEAST_COUNT),

@@ -1,5 +1,5 @@
 -- `cases::answers::print_rows` is safe and ends. The invariant ties the row to the number of ages passed, of which there are at most
--- 64. The measure is the ages that are left. Assumes nothing.
+-- the most that a member has. The measure is the ages that are left. Assumes nothing.
 use Prim.Native.Nat.{_≤_, _-_, _*_}
 use mathlib.Core.Path.{_≡_}
 use borrow.Author.Needs.{needs}
