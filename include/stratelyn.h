@@ -47,7 +47,7 @@ extern "C" {
 #define STRATELYN_BLANK_SLIP 384
 
 /* Each function uses less than this much stack; hosts/c/stack.c measures it. */
-#define STRATELYN_MOST_STACK_BYTES 32768
+#define STRATELYN_MOST_STACK_BYTES 16384
 
 /* What a run returns. */
 enum stratelyn_refusal {

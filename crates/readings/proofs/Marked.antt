@@ -30,7 +30,7 @@ unfolding firstColumns agesText reportText linesOf fieldsOf hourly cardOutcome d
     shrinkageShare pathFriction pathLength factor ticksOf magnitude
 computed = tt
 
--- the run of the most ages, by itself: its logarithms take most of the steps that a declaration may take
+-- by itself: were the limit another, the card of an age more would run as well, and two such runs take more steps than a declaration may
 most-ages : numberAndPlace (resultOfCard (withAges 48) 48) ≡ 0 ∷ 0 ∷ []
 unfolding computed
 most-ages = refl

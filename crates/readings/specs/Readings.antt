@@ -81,7 +81,7 @@ hourly zero hour = []
 hourly (suc count) hour = (hour ∷ 0 ∷ []) ∷ hourly count (suc hour)
 
 abbrev pub withAges : ℕ → List ℕ
-withAges count = linesOf (line1 ∷ line2 3072 ∷ line3 ∷ line4 0 0 0 count ∷ hourly count 744)
+withAges count = linesOf (line1 ∷ line2 3072 ∷ line3 ∷ line4 0 0 0 count ∷ hourly count 437000)
 
 -- the sample's but for this ultimate strength, a jacking stress of 60,000 psi, Es 2.5 times Ec, which is Eci too, an eccentricity of an
 -- inch, and at the first age this moment
