@@ -13,7 +13,7 @@ HEADER = ROOT / "include" / "stratelyn.h"
 INTEGRATION = ROOT / "docs" / "INTEGRATION.md"
 BYTES_OF_NUMBER = 8
 
-# The header's plain numbers, by their names without STRATELYN_.
+# The header's plain numbers, by their names without STRATELYN_: all but the bound of the stack, which is measured.
 PLAIN_NUMBERS = {
     "BYTES_PER_NUMBER": BYTES_OF_NUMBER,
     "NUMBERS_PER_REPLY": len(("place", *paper.BEFORE_AGES, "last stress")),
@@ -28,6 +28,9 @@ PLAIN_NUMBERS = {
     "TICKS_PER_PSI": paper.TICKS,
     "BLANK_SLIP": paper.field_of("slip").blank,
 }
+
+# The sizes that the integrators' page has.
+SIZES = ("MOST_SEGMENTS", "MOST_AGES", "MOST_CARD_BYTES", "MOST_LIST_BYTES", "MOST_REPORT_BYTES", "REPLY_BYTES", "MOST_STACK_BYTES")
 
 MEMBER = """/* %(what)s, as the text of a card and as a list of doubles. tools/stored_answers.py --write writes it. */
 #ifndef %(guard)s_H
@@ -76,14 +79,6 @@ def example_text(card):
     return "card: " + run + "list: " + run + "cut card: refused %d at %d\n" % refusal
 
 
-def header_text():
-    """The header with the plain numbers that are due."""
-    text = HEADER.read_text()
-    for name, number in PLAIN_NUMBERS.items():
-        text = re.sub(r"(#define STRATELYN_%s) \d+" % name, r"\1 %d" % number, text)
-    return text
-
-
 def header_numbers():
     """The header's numbers, by their names without STRATELYN_. A number may be computed from those above it."""
     numbers = {}
@@ -92,27 +87,31 @@ def header_numbers():
     return {name.removeprefix("STRATELYN_"): number for name, number in numbers.items()}
 
 
+def hold_written(checks, path, before, numbers, after):
+    """A file has each number once, between these words, the first with its name. With --write, it is written there."""
+    text = path.read_text()
+    for name, number in numbers.items():
+        words = re.escape(before % name), re.escape(after)
+        text, found = re.subn(r"(%s)[\d,]+(%s)" % words, r"\g<1>%s\2" % number, text)
+        checks.hold(found == 1, "%s has STRATELYN_%s" % (path.name, name))
+    checks.file(path, text.encode())
+
+
 def hold_numbers(checks, longest):
-    """The header has every plain number, and computes from them the sizes that the longest card and list have, and reply and age."""
-    checks.file(HEADER, header_text().encode())
+    """The header's plain numbers; the sizes that it computes from them, which the longest card, list and report, a reply and an age have;
+    and the sizes of the integrators' page."""
+    hold_written(checks, HEADER, "#define STRATELYN_%s ", PLAIN_NUMBERS, "\n")
     numbers = header_numbers()
-    sizes = {
-        "REPLY_BYTES": BYTES_OF_NUMBER * PLAIN_NUMBERS["NUMBERS_PER_REPLY"],
-        "BYTES_PER_AGE": BYTES_OF_NUMBER * paper.REPORT_NUMBERS_OF_AGE,
-        "MOST_REPORT_BYTES": BYTES_OF_NUMBER * paper.MOST_REPORT_ROOM,
-        "MOST_CARD_BYTES": len(longest),
-        "MOST_LIST_BYTES": BYTES_OF_NUMBER * len(sum(layout.list_of(longest), [])),
-    }
-    for name, due in {**PLAIN_NUMBERS, **sizes}.items():
+    for name, due in (
+        ("REPLY_BYTES", BYTES_OF_NUMBER * PLAIN_NUMBERS["NUMBERS_PER_REPLY"]),
+        ("BYTES_PER_AGE", BYTES_OF_NUMBER * paper.REPORT_NUMBERS_OF_AGE),
+        ("MOST_REPORT_BYTES", BYTES_OF_NUMBER * paper.MOST_REPORT_ROOM),
+        ("MOST_CARD_BYTES", len(longest)),
+        ("MOST_LIST_BYTES", BYTES_OF_NUMBER * len(sum(layout.list_of(longest), []))),
+    ):
         checks.hold(numbers.get(name) == due, "STRATELYN_%s in include/stratelyn.h is %d" % (name, due))
-
-
-def hold_sizes(checks):
-    """The integrators' page has the header's sizes."""
-    sizes = re.findall(r"\| `STRATELYN_(\w+)` \| ([\d,]+) \|", INTEGRATION.read_text())
-    checks.hold(sizes, "docs/INTEGRATION.md has a table of sizes")
-    for name, size in sizes:
-        checks.hold(header_numbers().get(name) == int(size.replace(",", "")), "STRATELYN_%s in docs/INTEGRATION.md" % name)
+    sizes = {name: format(numbers[name], ",") for name in SIZES}
+    hold_written(checks, INTEGRATION, "| `STRATELYN_%s` | ", sizes, " |\n")
 
 
 def hold_refusals(checks):
@@ -128,5 +127,4 @@ def hold(checks, sample, longest):
     checks.file(HOSTS / "longest.h", member_text("LONGEST", "The longest card that is accepted", longest).encode())
     checks.file(HOSTS / "example.out", example_text(sample).encode())
     hold_numbers(checks, longest)
-    hold_sizes(checks)
     hold_refusals(checks)

@@ -561,25 +561,25 @@ def refusals_at_slip():
 
 
 def too_many_ages():
-    """A count of ages past the most, with what is wrong before it, beside it and behind it; and the most, with a line too few or too many."""
-    over = MOST_AGES + 1
-    text, ages = card(POST, (), ages_of(over)), "%d ages, " % over
-    yield "%d ages, a card of up to W6" % OLDER_MOST_AGES, card(POST, (), ages_of(OLDER_MOST_AGES))
-    yield ages + "a letter in the count of segments", card(POST, (), ages_of(over), segments="x")
-    yield ages + "%d segments" % (MOST_SEGMENTS + 1), card(POST, (), ages_of(over), segments=MOST_SEGMENTS + 1)
-    yield ages + "a kind that is not listed", card(POST, (), ages_of(over), kind=0)
-    yield ages + "last line feed missing", text[: -len(LINE_FEED)]
-    yield ages + "no line behind the count", card(POST, (), (), ages=over)
-    yield "as many ages as fill the columns", card(POST, (), (), ages=10**COLUMNS - 1)
-    most, ages = card(POST, (), ages_of(MOST_AGES)), "%d ages, " % MOST_AGES
-    yield ages + "last line missing", last_line_missing(most)
-    yield ages + "a line more", card(POST, (), ages_of(over), ages=MOST_AGES)
+    """A count of ages past the most, and what else may be wrong; the most ages, with a line too few and a line too many."""
+    yield "%d ages, the most up to document 02's W6" % OLDER_MOST_AGES, card(POST, (), ages_of(OLDER_MOST_AGES))
+    over = ages_of(MOST_AGES + 1)
+    for label, changes in (
+        ("a letter in the count of segments", dict(segments="x")),
+        ("%d segments" % (MOST_SEGMENTS + 1), dict(segments=MOST_SEGMENTS + 1)),
+        ("a kind that is not listed", dict(kind=0)),
+    ):
+        yield "%d ages, %s" % (len(over), label), card(POST, (), over, **changes)
+    yield "%d ages, last line feed missing" % len(over), card(POST, (), over)[: -len(LINE_FEED)]
+    yield "%d ages, no line behind the count" % len(over), card(POST, (), (), ages=len(over))
+    yield "as many ages as the columns hold", card(POST, (), (), ages=10**COLUMNS - 1)
+    yield "%d ages, last line missing" % MOST_AGES, last_line_missing(card(POST, (), ages_of(MOST_AGES)))
+    yield "%d ages, a line more" % MOST_AGES, card(POST, (), over, ages=MOST_AGES)
 
 
 PARTS = (
     ranges, counts, codes, segments, moments, hours, duct, section_and_creep, stress, long_cards, shape, gains, blank_slips, long_ducts,
-    anchored_girder, old_slips, whole_root, path_lengths, tick_of_friction, affected_lengths, refusals_at_slip,
-    too_many_ages,
+    anchored_girder, old_slips, whole_root, path_lengths, tick_of_friction, affected_lengths, refusals_at_slip, too_many_ages,
 )
 
 

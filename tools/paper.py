@@ -95,7 +95,7 @@ LINES = (
         Field("wobble", 0, 2000),
         Field("curvature", 0, 400000),
         Field("segments", 0, 64),
-        Field("ages", 3, 48),
+        Field("ages", 3, 48),  # of document 02's W6
     ),
 )
 SEGMENT = (Field("kind", codes=(STRAIGHT, PARABOLA, BEND)), Field("length", ticks=True), Field("rise", ticks=True))

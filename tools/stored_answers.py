@@ -7,7 +7,8 @@ and the sample, crates/report/stdin. A card's answer is its .out file, or a part
 The stored lists: a line of crates/cases/data/lists.txt for each, in four parts: numbers of room in report and scratch; the doubles, each
 as the 16 hexadecimal digits of its bits; number and place; and of an accepted list, in hexadecimal, the numbers before the ages, the bits
 of the last stress as a double, and each age's row.
-Of include/stratelyn.h the plain numbers are written, and the sizes that it computes from them held; docs/EXAMPLES.md is held.
+Of include/stratelyn.h the plain numbers are written, and the sizes that it computes from them held; docs/INTEGRATION.md's table of sizes is
+written from them; docs/EXAMPLES.md is held, not written.
 """
 import json
 from pathlib import Path

@@ -12,20 +12,21 @@ fn numbers(header: &str) -> String {
     header.lines().filter_map(constant).collect()
 }
 
-/// A file that the build is made anew for when it changes.
-fn watched(path: PathBuf) -> PathBuf {
+/// A file that has to be there. When it changes, the wrapper is built anew.
+fn needed(path: PathBuf, what: &str) -> PathBuf {
     println!("cargo:rerun-if-changed={}", path.display());
+    assert!(path.is_file(), "there is no {}, {what}", path.display());
     path
 }
 
 fn main() {
     let root = Path::new(env!("CARGO_MANIFEST_DIR")).join("../..");
-    let header = fs::read_to_string(watched(root.join("include/stratelyn.h"))).expect("the header is beside the wrapper");
-    let out = PathBuf::from(env::var_os("OUT_DIR").expect("cargo names it"));
-    fs::write(out.join("header.rs"), numbers(&header)).expect("cargo lends a folder");
+    let header = needed(root.join("include/stratelyn.h"), "the core's header");
+    let constants = numbers(&fs::read_to_string(header).expect("the header is text"));
+    let out = PathBuf::from(env::var_os("OUT_DIR").expect("cargo names a folder"));
+    fs::write(out.join("header.rs"), constants).expect("cargo's folder is there");
     let archives = root.join("target/staticlib");
-    let archive = watched(archives.join("libstratelyn.a"));
-    assert!(archive.is_file(), "there is no {}; `rt staticlib stratelyn` writes it", archive.display());
+    needed(archives.join("libstratelyn.a"), "which `rt staticlib stratelyn` writes");
     println!("cargo:rustc-link-search=native={}", archives.display());
     println!("cargo:rustc-link-lib=static=stratelyn");
 }

@@ -30,19 +30,19 @@ unfolding firstColumns agesText reportText linesOf fieldsOf hourly cardOutcome d
     shrinkageShare pathFriction pathLength factor ticksOf magnitude
 computed = tt
 
--- by itself: were the limit another, the card of an age more would run as well, and two such runs take more steps than a declaration may
-most-ages : numberAndPlace (resultOfCard (withAges 48) 48) ≡ 0 ∷ 0 ∷ []
+-- in a declaration of its own: with a wrong limit the card of one age more would run too, and one may not take the steps of both
+most-ages : numberAndPlace (resultOfCard (withAges 48)) ≡ 0 ∷ 0 ∷ []
 unfolding computed
 most-ages = refl
 
 drop : dropAtJack 24566 29479201 1 102400 ≡ 49132
 drop = sym (one-drop 24566 29479201 1 102400 (lit≤ tt) 49132 (record { covered = refl; next-not-covered = refl }))
 
-slip-reaches : numberAndPlace (resultOfCard (withAnchorSet 102400) 3) ≡ 0 ∷ 0 ∷ []
+slip-reaches : numberAndPlace (resultOfCard (withAnchorSet 102400)) ≡ 0 ∷ 0 ∷ []
 unfolding computed
 slip-reaches = rw drop refl
 
-slip-beyond : numberAndPlace (resultOfCard (withAnchorSet 102399) 3) ≡ 12 ∷ 7 ∷ []
+slip-beyond : numberAndPlace (resultOfCard (withAnchorSet 102399)) ≡ 12 ∷ 7 ∷ []
 unfolding computed
 slip-beyond = rw drop refl
 

@@ -10,7 +10,7 @@ use Rattle.logarithm.specs.Logarithm.{logarithm}
 use Rattle.coefficient.specs.declared.codes.Cure.{Cure}
 use Rattle.coefficient.specs.declared.clocks.HoursSinceTransfer.{HoursSinceTransfer}
 use Rattle.coefficient.specs.Coefficients.{scf, mcf, creepShare}
-use Rattle.fields.specs.Limits.{reportRoom, scratchRoom}
+use Rattle.fields.specs.Limits.{mostAges, reportRoom, scratchRoom}
 use Rattle.fields.specs.Outcomes.{accepted, OrRefusal, Gives, Refuses}
 use Rattle.card.specs.Card.{cardOutcome}
 use Rattle.fields.specs.Quantities.{Quantities, Segment, Age, parabola, quantitiesRead}
@@ -80,6 +80,7 @@ unfoldable pub hourly : ℕ → ℕ → List (List ℕ)
 hourly zero hour = []
 hourly (suc count) hour = (hour ∷ 0 ∷ []) ∷ hourly count (suc hour)
 
+-- late in the service life, where a logarithm is computed in few steps
 abbrev pub withAges : ℕ → List ℕ
 withAges count = linesOf (line1 ∷ line2 3072 ∷ line3 ∷ line4 0 0 0 count ∷ hourly count 437000)
 
@@ -108,9 +109,9 @@ withAnchorSet length =
 
 -- ---- what a card gives
 
--- with room for so many ages in report and scratch
-abbrev pub resultOfCard : List ℕ → ℕ → OrRefusal Report
-resultOfCard card ages = resultRead (cardOutcome card) (reportRoom ages) (scratchRoom ages)
+-- with room for the most ages in report and scratch
+abbrev pub resultOfCard : List ℕ → OrRefusal Report
+resultOfCard card = resultRead (cardOutcome card) (reportRoom mostAges) (scratchRoom mostAges)
 
 -- a refusal's number and place, both "0 if accepted"
 abbrev pub numberAndPlace : OrRefusal Report → List ℕ
@@ -201,7 +202,7 @@ pub record Marked : Type 0 where
   -- "this sample": the fields of its text, its ages (the first, the second, the third), what it gives, and what is printed for it
   pub sample-fields : cardOutcome sample ≡ accepted 0 3 (fieldsOf sampleLines)
   pub sample-ages : agesRead (quantitiesRead (cardOutcome sample)) ≡ age 744 0 ∷ age 8784 0 ∷ age 438000 0 ∷ []
-  pub sample-result : resultOfCard sample 3 ≡ Gives (record { before = sampleBefore; rows = row1 ∷ row2 ∷ row3 ∷ []; last = 91437232 })
+  pub sample-result : resultOfCard sample ≡ Gives (record { before = sampleBefore; rows = row1 ∷ row2 ∷ row3 ∷ []; last = 91437232 })
   pub sample-printed : reportText sample
       ≡ linesOf (lineBefore sampleBefore ∷ ageLine 1 744 row1 ∷ ageLine 2 8784 row2 ∷ ageLine 3 438000 row3 ∷ [])
   -- "L(1)=0, L(2)=77, L(9)=244, L(10)=256, L(18)=321, L(720)=731"
@@ -225,16 +226,16 @@ pub record Marked : Type 0 where
   -- "parabola 65,536 by 2,560, wobble 200, curvature 150,000: X 411,356"
   pub parabola-X : pathFriction 200 150000 (parabolaOf 65536 2560 ∷ []) ≡ 411356
   -- "volume/surface 1,024 passes, 1,023 gives 2", at field 13
-  pub surface-1024 : numberAndPlace (resultOfCard (withVolumeToSurface 1024) 3) ≡ 0 ∷ 0 ∷ []
-  pub surface-1023 : numberAndPlace (resultOfCard (withVolumeToSurface 1023) 3) ≡ 2 ∷ 13 ∷ []
+  pub surface-1024 : numberAndPlace (resultOfCard (withVolumeToSurface 1024)) ≡ 0 ∷ 0 ∷ []
+  pub surface-1023 : numberAndPlace (resultOfCard (withVolumeToSurface 1023)) ≡ 2 ∷ 13 ∷ []
   -- document 02, W3: "the edge pair moves to 25,165,824 and 25,165,825", where refusal 4 place 2 begins
   pub X-25165824 : frictionOfCard (withDuct 183) ≡ 25165824
-  pub X-25165824-passes : numberAndPlace (resultOfCard (withDuct 183) 3) ≡ 0 ∷ 0 ∷ []
+  pub X-25165824-passes : numberAndPlace (resultOfCard (withDuct 183)) ≡ 0 ∷ 0 ∷ []
   pub X-25165825 : frictionOfCard (withDuct 184) ≡ 25165825
-  pub X-25165825-refused : numberAndPlace (resultOfCard (withDuct 184) 3) ≡ 4 ∷ 2 ∷ []
+  pub X-25165825-refused : numberAndPlace (resultOfCard (withDuct 184)) ≡ 4 ∷ 2 ∷ []
   -- document 02, W6: "the edge pair in document 01 moves to 48 and 49", at field 24
-  pub ages-48 : numberAndPlace (resultOfCard (withAges 48) 48) ≡ 0 ∷ 0 ∷ []
-  pub ages-49 : numberAndPlace (resultOfCard (withAges 49) 49) ≡ 2 ∷ 24 ∷ []
+  pub ages-48 : numberAndPlace (resultOfCard (withAges 48)) ≡ 0 ∷ 0 ∷ []
+  pub ages-49 : numberAndPlace (resultOfCard (withAges 49)) ≡ 2 ∷ 24 ∷ []
   -- document 02, W1: "11 when the stress after a gain passes 0.80 F". To the tick it passes, "after the stress" stands the gain; a tick
   -- above it is refused at age 1
   pub gain-reaches : 100 * reached .stress ≡ 80 * 150005 * 1024
@@ -243,7 +244,7 @@ pub record Marked : Type 0 where
       ((0 ∷ 0 ∷ 0 ∷ 0 ∷ 1320974 ∷ 60119026 ∷ []) ∷ ageLine 1 744 reached ∷ (2 ∷ 8784 ∷ 0 ∷ 4649779 ∷ 5220032 ∷ 113014285 ∷ 0 ∷ [])
       ∷ (3 ∷ 438000 ∷ 0 ∷ 1479475 ∷ 6060330 ∷ 105474480 ∷ 0 ∷ []) ∷ [])
   pub gain-above : 100 * firstLiftedOf passing ≡ 80 * 150000 * 1024 + 100
-  pub gain-above-refused : numberAndPlace (resultOfCard passing 3) ≡ 11 ∷ 1 ∷ []
+  pub gain-above-refused : numberAndPlace (resultOfCard passing) ≡ 11 ∷ 1 ∷ []
   -- document 02, W5: "Where d or P is 0 the old rule stays", and from a tick of each on it does not
   pub no-friction : diesOut 0 1 ≡ false
   pub no-length : diesOut 1 0 ≡ false
@@ -251,7 +252,7 @@ pub record Marked : Type 0 where
   -- "12 when the affected length Z·P/(2d) passes the tendon length", place 7. Z is just twice the friction, so that the
   -- affected length is that of the path, 102,400 ticks: it may be that of the tendon, and not a tick more
   pub drop-49132 : dropAtJack 24566 29479201 1 102400 ≡ 2 * 24566
-  pub slip-reaches-passes : numberAndPlace (resultOfCard (withAnchorSet 102400) 3) ≡ 0 ∷ 0 ∷ []
-  pub slip-beyond-refused : numberAndPlace (resultOfCard (withAnchorSet 102399) 3) ≡ 12 ∷ 7 ∷ []
+  pub slip-reaches-passes : numberAndPlace (resultOfCard (withAnchorSet 102400)) ≡ 0 ∷ 0 ∷ []
+  pub slip-beyond-refused : numberAndPlace (resultOfCard (withAnchorSet 102399)) ≡ 12 ∷ 7 ∷ []
   -- "refusal 7 alone may alter the scratch", and 11: not 12
   pub slip-beyond-keeps-scratch : mayAlterScratch Refusal.AnchorSet ≡ false

@@ -34,7 +34,7 @@ mod core {
     }
 }
 
-/// The plain numbers of include/stratelyn.h, by their names there.
+/// The plain numbers of include/stratelyn.h, by their names there without STRATELYN_.
 #[allow(dead_code)]
 mod header {
     include!(concat!(env!("OUT_DIR"), "/header.rs"));

@@ -1,6 +1,6 @@
 //! The core against the papers' method as the tests write it, on random inputs: good members, some with long ducts, a quarter of all with
-//! an anchor set that dies out along the duct, edges of every range, damaged bytes, NaN payloads, odd lengths, short buffers. Every byte of
-//! reply, report and scratch is compared. And cards with a blank slip, against the same cards that write it.
+//! an anchor set that dies out along the duct, members with too many ages, edges of every range, damaged bytes, NaN payloads, odd lengths,
+//! short buffers. Every byte of reply, report and scratch is compared. And cards with a blank slip, against the same cards that write it.
 
 mod paper;
 
@@ -25,6 +25,9 @@ const CASES_TO_A_SET: usize = 4;
 
 /// The slip of older wedges, which a blank field read before document 02's W2.
 const OLDER_SLIP: u64 = 256;
+
+/// The most ages up to document 02's W6.
+const OLDER_MOST_AGES: u64 = 64;
 
 /// Numbers that look random, from a fixed seed.
 struct Random(u64);
@@ -132,7 +135,7 @@ fn head(r: &mut Random) -> Vec<u64> {
 fn ages(r: &mut Random) -> u64 {
     match r.below(32) {
         0..=3 => MOST_AGES,
-        4 => r.between(MOST_AGES + 1, MOST_AGES + 16),
+        4 => r.between(MOST_AGES + 1, OLDER_MOST_AGES),
         _ => r.between(LEAST_AGES, 12),
     }
 }

@@ -1,4 +1,5 @@
--- As many doubles are read as the list holds, up to one more than the most fields: what they give is what the whole list gives. Assumes nothing.
+-- As many doubles are read as the list holds, up to one more than the most fields: what they give is what the whole list gives.
+-- Assumes nothing.
 use mathlib.Core.Path.{sym, ap, _∙_}
 use denote.Ref.{now}
 use borrow.Author.Needs.{needs}
