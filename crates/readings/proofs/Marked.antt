@@ -5,12 +5,14 @@ use mathlib.Core.Path.{_≡_, refl, sym}
 use mathlib.Core.List.{[], _∷_}
 use lib.Dec.{leb→le, lit≤}
 use Rattle.formulas.proofs.Drop.{one-drop}
-use Rattle.ticks.specs.Doubles.{ticksOf, magnitude, one}
+use lib.Ieee.{round, toBits}
+use Rattle.ticks.specs.Doubles.{ticksOf, wholeOf, magnitude, one}
 use Rattle.logarithm.specs.Logarithm.{logarithm}
 use Rattle.coefficient.specs.Coefficients.{scf, ssf, mcf, ucr, ush, creepShare, shrinkageShare}
 use Rattle.fields.specs.Outcomes.{numbersIn}
 use Rattle.line.specs.Lines.{digitsOf, spacesIn}
 use Rattle.card.specs.Card.{cardOutcome}
+use Rattle.list.specs.Lists.{amountsBy, countsIn, listOutcome}
 use Rattle.fields.specs.Quantities.{segmentsFrom, agesFrom}
 use Rattle.exponential.specs.Factor.{factor}
 use Rattle.member.specs.Constants.{pathFriction, pathLength}
@@ -21,11 +23,11 @@ use Rattle.stages.specs.Run.{memberResult}
 use Rattle.text.specs.Columns.{firstColumns}
 use Rattle.text.specs.Text.{agesText, reportText}
 use Rattle.readings.specs.Readings.{Marked, withAnchorSet, linesOf, fieldsOf, hourly, numberAndPlace, resultOfCard, withAges}
-use Rattle.readings.specs.Readings.{double0153, halfApart}
+use Rattle.readings.specs.Readings.{double0153, halfApart, doublesFrom}
 
 -- what opens every definition that a reading is computed by, but the drop at the jack
 unfoldable computed : Unit {0}
-unfolding firstColumns agesText reportText linesOf fieldsOf hourly cardOutcome digitsOf spacesIn numbersIn segmentsFrom agesFrom checkedOf
+unfolding firstColumns agesText reportText linesOf fieldsOf hourly doublesFrom round toBits amountsBy countsIn listOutcome wholeOf cardOutcome digitsOf spacesIn numbersIn segmentsFrom agesFrom checkedOf
     firstFailing segmentCodes rangesOfSegments rangesOfMoments hoursOfAges memberResult logarithm scf ssf mcf ucr ush creepShare
     shrinkageShare pathFriction pathLength factor ticksOf magnitude
 computed = tt
@@ -54,6 +56,7 @@ marked = record {
   sample-ages = refl;
   sample-result = refl;
   sample-printed = refl;
+  sample-as-list = refl;
   L1 = refl;
   L2 = refl;
   L9 = refl;
@@ -76,6 +79,8 @@ marked = record {
   X-25165825-refused = refl;
   ages-48 = most-ages;
   ages-49 = refl;
+  ages-48-as-list = refl;
+  ages-49-as-list = refl;
   gain-reaches = refl;
   gain-reaches-passes = refl;
   gain-above = refl;

@@ -1,10 +1,12 @@
 -- The theorem `marked` rests on it. The readings that document 01 marks ★, and its edges, in the order of its "Sample beam", and the edges
 -- of document 02's 11 and 12: one list of what the definitions of the other crates give, to be held beside the papers.
 use Prim.Native.Nat.{ℕ, zero, suc, _+_, _-_, _*_, _^_, _≤_}
-use mathlib.Core.Bool.{true, false}
+use mathlib.Core.Bool.{Bool, true, false, cond}
 use mathlib.Core.List.{List, [], _∷_, _++_}
 use mathlib.Core.Path.{_≡_}
+use lib.Ieee.{Float, binary64, round}
 use Rattle.ticks.specs.declared.Amount.{Amount}
+use Rattle.ticks.specs.Ticks.{ticksPerUnit}
 use Rattle.ticks.specs.Doubles.{ticksOf, magnitude, one}
 use Rattle.logarithm.specs.Logarithm.{logarithm}
 use Rattle.coefficient.specs.declared.codes.Cure.{Cure}
@@ -13,6 +15,7 @@ use Rattle.coefficient.specs.Coefficients.{scf, mcf, creepShare}
 use Rattle.fields.specs.Limits.{mostAges, reportRoom, scratchRoom}
 use Rattle.fields.specs.Outcomes.{accepted, OrRefusal, Gives, Refuses}
 use Rattle.card.specs.Card.{cardOutcome}
+use Rattle.list.specs.Lists.{inTicks, listOutcome}
 use Rattle.fields.specs.Quantities.{Quantities, Segment, Age, parabola, quantitiesRead}
 use Rattle.fields.specs.declared.refusal.Refusal.{Refusal}
 use Rattle.fields.specs.Refusals.{number, place, mayAlterScratch}
@@ -63,6 +66,20 @@ unfoldable pub fieldsOf : List (List ℕ) → List ℕ
 fieldsOf [] = []
 fieldsOf (line ∷ lines) = line ++ fieldsOf lines
 
+-- ---- the list of a card without segments: "one list of doubles, the same fields in order and in units, not ticks"
+
+-- the double nearest to a field in units; here it is exact
+abbrev pub doubleOf : Bool → ℕ → Float
+doubleOf keptInTicks amount = round binary64 false amount (cond keptInTicks ticksPerUnit 1)
+
+-- of some fields, the first of them numbered `field`
+unfoldable pub doublesFrom : ℕ → List ℕ → List Float
+doublesFrom field [] = []
+doublesFrom field (first ∷ rest) = doubleOf (inTicks 0 field) first ∷ doublesFrom (suc field) rest
+
+abbrev pub listOf : List (List ℕ) → List Float
+listOf lines = doublesFrom 1 (fieldsOf lines)
+
 -- ---- the cards of the edges
 
 abbrev pub withVolumeToSurface : ℕ → List ℕ
@@ -81,8 +98,11 @@ hourly zero hour = []
 hourly (suc count) hour = (hour ∷ 0 ∷ []) ∷ hourly count (suc hour)
 
 -- late in the service life, where a logarithm is computed in few steps
+abbrev pub linesWithAges : ℕ → List (List ℕ)
+linesWithAges count = line1 ∷ line2 3072 ∷ line3 ∷ line4 0 0 0 count ∷ hourly count 437000
+
 abbrev pub withAges : ℕ → List ℕ
-withAges count = linesOf (line1 ∷ line2 3072 ∷ line3 ∷ line4 0 0 0 count ∷ hourly count 437000)
+withAges count = linesOf (linesWithAges count)
 
 -- the sample's but for this ultimate strength, a jacking stress of 60,000 psi, Es 2.5 times Ec, which is Eci too, an eccentricity of an
 -- inch, and at the first age this moment
@@ -205,6 +225,8 @@ pub record Marked : Type 0 where
   pub sample-result : resultOfCard sample ≡ Gives (record { before = sampleBefore; rows = row1 ∷ row2 ∷ row3 ∷ []; last = 91437232 })
   pub sample-printed : reportText sample
       ≡ linesOf (lineBefore sampleBefore ∷ ageLine 1 744 row1 ∷ ageLine 2 8784 row2 ∷ ageLine 3 438000 row3 ∷ [])
+  -- "A host may instead lend one list of doubles": it is read as the card is
+  pub sample-as-list : listOutcome (listOf sampleLines) ≡ cardOutcome sample
   -- "L(1)=0, L(2)=77, L(9)=244, L(10)=256, L(18)=321, L(720)=731"
   pub L1 : logarithm 1 ≡ 0
   pub L2 : logarithm 2 ≡ 77
@@ -233,9 +255,11 @@ pub record Marked : Type 0 where
   pub X-25165824-passes : numberAndPlace (resultOfCard (withDuct 183)) ≡ 0 ∷ 0 ∷ []
   pub X-25165825 : frictionOfCard (withDuct 184) ≡ 25165825
   pub X-25165825-refused : numberAndPlace (resultOfCard (withDuct 184)) ≡ 4 ∷ 2 ∷ []
-  -- document 02, W6: "the edge pair in document 01 moves to 48 and 49", at field 24
+  -- document 02, W6: "the edge pair in document 01 moves to 48 and 49", at field 24; in a list as on a card
   pub ages-48 : numberAndPlace (resultOfCard (withAges 48)) ≡ 0 ∷ 0 ∷ []
   pub ages-49 : numberAndPlace (resultOfCard (withAges 49)) ≡ 2 ∷ 24 ∷ []
+  pub ages-48-as-list : listOutcome (listOf (linesWithAges 48)) ≡ cardOutcome (withAges 48)
+  pub ages-49-as-list : listOutcome (listOf (linesWithAges 49)) .reading ≡ cardOutcome (withAges 49) .reading
   -- document 02, W1: "11 when the stress after a gain passes 0.80 F". To the tick it passes, "after the stress" stands the gain; a tick
   -- above it is refused at age 1
   pub gain-reaches : 100 * reached .stress ≡ 80 * 150005 * 1024
