@@ -23,13 +23,13 @@ use Rattle.stages.specs.Run.{memberResult}
 use Rattle.text.specs.Columns.{firstColumns}
 use Rattle.text.specs.Text.{agesText, reportText}
 use Rattle.readings.specs.Readings.{Marked, withAnchorSet, linesOf, fieldsOf, hourly, numberAndPlace, resultOfCard, withAges}
-use Rattle.readings.specs.Readings.{double0153, halfApart, doublesFrom}
+use Rattle.readings.specs.Readings.{double0153, halfApart}
 
 -- what opens every definition that a reading is computed by, but the drop at the jack
 unfoldable computed : Unit {0}
-unfolding firstColumns agesText reportText linesOf fieldsOf hourly doublesFrom round toBits amountsBy countsIn listOutcome wholeOf cardOutcome digitsOf spacesIn numbersIn segmentsFrom agesFrom checkedOf
-    firstFailing segmentCodes rangesOfSegments rangesOfMoments hoursOfAges memberResult logarithm scf ssf mcf ucr ush creepShare
-    shrinkageShare pathFriction pathLength factor ticksOf magnitude
+unfolding firstColumns agesText reportText linesOf fieldsOf hourly cardOutcome digitsOf spacesIn round toBits listOutcome countsIn amountsBy
+    wholeOf ticksOf magnitude numbersIn segmentsFrom agesFrom checkedOf firstFailing segmentCodes rangesOfSegments rangesOfMoments
+    hoursOfAges memberResult logarithm scf ssf mcf ucr ush creepShare shrinkageShare pathFriction pathLength factor
 computed = tt
 
 -- in a declaration of its own: with a wrong limit the card of one age more would run too, and one may not take the steps of both

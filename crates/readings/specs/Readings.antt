@@ -1,12 +1,11 @@
 -- The theorem `marked` rests on it. The readings that document 01 marks ★, and its edges, in the order of its "Sample beam", and the edges
 -- of document 02's 11 and 12: one list of what the definitions of the other crates give, to be held beside the papers.
 use Prim.Native.Nat.{ℕ, zero, suc, _+_, _-_, _*_, _^_, _≤_}
-use mathlib.Core.Bool.{Bool, true, false, cond}
-use mathlib.Core.List.{List, [], _∷_, _++_}
+use mathlib.Core.Bool.{true, false}
+use mathlib.Core.List.{List, [], _∷_, _++_, map}
 use mathlib.Core.Path.{_≡_}
 use lib.Ieee.{Float, binary64, round}
 use Rattle.ticks.specs.declared.Amount.{Amount}
-use Rattle.ticks.specs.Ticks.{ticksPerUnit}
 use Rattle.ticks.specs.Doubles.{ticksOf, magnitude, one}
 use Rattle.logarithm.specs.Logarithm.{logarithm}
 use Rattle.coefficient.specs.declared.codes.Cure.{Cure}
@@ -15,7 +14,7 @@ use Rattle.coefficient.specs.Coefficients.{scf, mcf, creepShare}
 use Rattle.fields.specs.Limits.{mostAges, reportRoom, scratchRoom}
 use Rattle.fields.specs.Outcomes.{accepted, OrRefusal, Gives, Refuses}
 use Rattle.card.specs.Card.{cardOutcome}
-use Rattle.list.specs.Lists.{inTicks, listOutcome}
+use Rattle.list.specs.Lists.{listOutcome}
 use Rattle.fields.specs.Quantities.{Quantities, Segment, Age, parabola, quantitiesRead}
 use Rattle.fields.specs.declared.refusal.Refusal.{Refusal}
 use Rattle.fields.specs.Refusals.{number, place, mayAlterScratch}
@@ -66,19 +65,21 @@ unfoldable pub fieldsOf : List (List ℕ) → List ℕ
 fieldsOf [] = []
 fieldsOf (line ∷ lines) = line ++ fieldsOf lines
 
--- ---- the list of a card without segments: "one list of doubles, the same fields in order and in units, not ticks"
+-- ---- the sample's list: "the same fields in order and in units, not ticks"
 
--- the double nearest to a field in units; here it is exact
-abbrev pub doubleOf : Bool → ℕ → Float
-doubleOf keptInTicks amount = round binary64 false amount (cond keptInTicks ticksPerUnit 1)
+-- 100 feet; 3 inches; 128 square inches, 1,024 in⁴ and a square inch
+abbrev pub headInUnits : ℕ → List (List ℕ)
+headInUnits ages =
+    (2 ∷ 1 ∷ 240000 ∷ 120000 ∷ 0 ∷ 0 ∷ 100 ∷ []) ∷ (2 ∷ 1 ∷ 28000000 ∷ 3500000 ∷ 4000000 ∷ 3 ∷ []) ∷ (128 ∷ 1024 ∷ 0 ∷ 1 ∷ 0 ∷ [])
+    ∷ line4 0 0 0 ages ∷ []
 
--- of some fields, the first of them numbered `field`
-unfoldable pub doublesFrom : ℕ → List ℕ → List Float
-doublesFrom field [] = []
-doublesFrom field (first ∷ rest) = doubleOf (inTicks 0 field) first ∷ doublesFrom (suc field) rest
+-- the double of a whole number, which is exact here
+abbrev pub doubleOf : ℕ → Float
+doubleOf whole = round binary64 false whole 1
 
-abbrev pub listOf : List (List ℕ) → List Float
-listOf lines = doublesFrom 1 (fieldsOf lines)
+-- with so many ages, which have these lines
+abbrev pub listOf : ℕ → List (List ℕ) → List Float
+listOf ages lines = map doubleOf (fieldsOf (headInUnits ages ++ lines))
 
 -- ---- the cards of the edges
 
@@ -98,11 +99,11 @@ hourly zero hour = []
 hourly (suc count) hour = (hour ∷ 0 ∷ []) ∷ hourly count (suc hour)
 
 -- late in the service life, where a logarithm is computed in few steps
-abbrev pub linesWithAges : ℕ → List (List ℕ)
-linesWithAges count = line1 ∷ line2 3072 ∷ line3 ∷ line4 0 0 0 count ∷ hourly count 437000
+abbrev pub lateAges : ℕ → List (List ℕ)
+lateAges count = hourly count 437000
 
 abbrev pub withAges : ℕ → List ℕ
-withAges count = linesOf (linesWithAges count)
+withAges count = linesOf (line1 ∷ line2 3072 ∷ line3 ∷ line4 0 0 0 count ∷ lateAges count)
 
 -- the sample's but for this ultimate strength, a jacking stress of 60,000 psi, Es 2.5 times Ec, which is Eci too, an eccentricity of an
 -- inch, and at the first age this moment
@@ -226,7 +227,7 @@ pub record Marked : Type 0 where
   pub sample-printed : reportText sample
       ≡ linesOf (lineBefore sampleBefore ∷ ageLine 1 744 row1 ∷ ageLine 2 8784 row2 ∷ ageLine 3 438000 row3 ∷ [])
   -- "A host may instead lend one list of doubles": it is read as the card is
-  pub sample-as-list : listOutcome (listOf sampleLines) ≡ cardOutcome sample
+  pub sample-as-list : listOutcome (listOf 3 ageLines) ≡ cardOutcome sample
   -- "L(1)=0, L(2)=77, L(9)=244, L(10)=256, L(18)=321, L(720)=731"
   pub L1 : logarithm 1 ≡ 0
   pub L2 : logarithm 2 ≡ 77
@@ -258,8 +259,8 @@ pub record Marked : Type 0 where
   -- document 02, W6: "the edge pair in document 01 moves to 48 and 49", at field 24; in a list as on a card
   pub ages-48 : numberAndPlace (resultOfCard (withAges 48)) ≡ 0 ∷ 0 ∷ []
   pub ages-49 : numberAndPlace (resultOfCard (withAges 49)) ≡ 2 ∷ 24 ∷ []
-  pub ages-48-as-list : listOutcome (listOf (linesWithAges 48)) ≡ cardOutcome (withAges 48)
-  pub ages-49-as-list : listOutcome (listOf (linesWithAges 49)) .reading ≡ cardOutcome (withAges 49) .reading
+  pub ages-48-as-list : listOutcome (listOf 48 (lateAges 48)) ≡ cardOutcome (withAges 48)
+  pub ages-49-as-list : listOutcome (listOf 49 (lateAges 49)) .reading ≡ cardOutcome (withAges 49) .reading
   -- document 02, W1: "11 when the stress after a gain passes 0.80 F". To the tick it passes, "after the stress" stands the gain; a tick
   -- above it is refused at age 1
   pub gain-reaches : 100 * reached .stress ≡ 80 * 150005 * 1024
