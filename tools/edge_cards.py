@@ -9,7 +9,7 @@ from paper import (
     ACCELERATED, AGE, BEND, BLANK, COLUMNS, LEAST_STRESS, LEAST_TRANSFER, LIFE, LINE_FEED, LOW_RELAXATION, MOIST, MOST_AGES,
     MOST_CREEP, MOST_CURING_IF_MOIST, MOST_KAPPA, MOST_MOMENTS, MOST_SEGMENTS, MOST_TRANSFER, MOST_X, NORMAL, NUMBER, PARABOLA,
     POST_TENSIONED, PRETENSIONED, SEGMENT_RANGES, STRAIGHT, STRESS_RELIEVED, T, TICKS, Age, Head, Segment, card_rows, drop_at_jack,
-    field_of, friction, friction_factor, friction_loss, inches, most_of, path_length, run, whole_creep,
+    field_of, friction, friction_factor, friction_loss, inches, most_of, path_length, run, stress_left, whole_creep,
 )
 
 MONTH, YEAR = 744, 8784
@@ -429,20 +429,15 @@ def anchored(base, x, length):
     return base._replace(curvature=curvature), [bend, Segment(STRAIGHT, length, 0)]
 
 
-def loss_by_friction(head, path):
-    """d."""
-    return friction_loss(head.jacking_stress * TICKS, friction(head.wobble, head.curvature, path))
-
-
 def drop_of(head, path):
     """Z."""
-    return drop_at_jack(head, loss_by_friction(head, path), inches(path_length(path)))
+    return drop_at_jack(head, friction_loss(head, path), inches(path_length(path)))
 
 
 def slips_of(head, path, drop):
     """Each slip and the Es, unrounded, that meet a drop at the jack exactly."""
     least, most = field_of("es").range(head)
-    d, length = loss_by_friction(head, path), inches(path_length(path))
+    d, length = friction_loss(head, path), inches(path_length(path))
     for slip in range(1, most_of("slip") + 1):
         es = drop**2 * length / (4 * d * slip)
         if least < es <= most:
@@ -485,7 +480,7 @@ def old_slips():
 def whole_root():
     """A drop at the jack that is met exactly. 1024·d·Es·slip is 3 times 2^64 there, and 0 where 64 bits hold it."""
     jacked, d, drop = 2**27, 2**21, 2**25
-    x = next(x for x in range(d * T // jacked, MOST_X) if friction_loss(jacked, x) == d)
+    x = next(x for x in range(d * T // jacked, MOST_X) if stress_left(jacked, x) == jacked - d)
     base, path = anchored(ANCHORED._replace(jacking_stress=jacked // TICKS), x, 2**14)
     slip, es = next((slip, int(es)) for slip, es in slips_of(base, path, drop) if es.denominator == 1)
     exact = base._replace(slip=slip, es=es)
@@ -497,6 +492,13 @@ def of_drop(head, path):
     return "path length %d: drop at the jack %d" % (path_length(path), drop_of(head, path)), card(head, path)
 
 
+def longest_path():
+    """The longest path, of straights, and the largest wobble whose X passes along it."""
+    _, longest_straight, _ = SEGMENT_RANGES[STRAIGHT]
+    path = MOST_SEGMENTS * [Segment(STRAIGHT, longest_straight, 0)]
+    return path, max(wobble for wobble in range(most_of("wobble") + 1) if friction(wobble, 0, path) <= MOST_X)
+
+
 def path_lengths():
     """A path of a tick, by itself and with about the largest product of d, Es and slip; with that the fewest feet; the longest path."""
     base = ANCHORED._replace(ultimate_strength=most_of("ultimate_strength"), es=most_of("es"), **UNLOADED)
@@ -506,13 +508,11 @@ def path_lengths():
     of_length = lambda length: anchored(strong._replace(slip=most_of("slip")), MOST_X, length)
     # With such a product a path of a tick leaves no stress. Where 32 bits hold the drop, this slip dies out.
     head, path = of_length(1)
-    dies_out = lambda slip: drop_of(head._replace(slip=slip), path) % 2**32 <= 2 * loss_by_friction(head, path)
+    dies_out = lambda slip: drop_of(head._replace(slip=slip), path) % 2**32 <= 2 * friction_loss(head, path)
     yield of_drop(head._replace(slip=max(filter(dies_out, range(head.slip + 1)))), path)
     feet = next(feet for feet in range(1, most_of("length") // TICKS) if accepted(card(*of_length(feet * TICKS))))
     yield of_drop(*of_length(feet * TICKS))
-    _, longest_straight, _ = SEGMENT_RANGES[STRAIGHT]
-    path = MOST_SEGMENTS * [Segment(STRAIGHT, longest_straight, 0)]
-    wobble = max(wobble for wobble in range(most_of("wobble") + 1) if friction(wobble, 0, path) <= MOST_X)
+    path, wobble = longest_path()
     yield of_drop(ANCHORED._replace(wobble=wobble), path)
 
 
@@ -524,14 +524,14 @@ def tick_of_friction():
     of_slip = lambda segment, slip: card(base, [segment], slip=slip)
     over = next(slip for slip in range(1, most_of("slip") + 1) if not accepted(of_slip(straight, slip)))
     for segment, slip in ((straight, over - 1), (straight, over), (shorter, over)):
-        label = "friction %d: straight, length %d, slip %d" % (loss_by_friction(base, [segment]), segment.length, slip)
+        label = "friction %d: straight, length %d, slip %d" % (friction_loss(base, [segment]), segment.length, slip)
         yield label, of_slip(segment, slip)
 
 
 def affected_lengths():
     """Affected lengths of the path and of one and a half of it, and those of a drop at the jack of a tick more."""
     base, path = anchored(ANCHORED, T // 16, 100 * TICKS)
-    d, length = loss_by_friction(base, path), path_length(path)
+    d, length = friction_loss(base, path), path_length(path)
     over = reaching(base, path, 2 * d + 1)
     at = less_es(over)
     yield "drop at the section 0, affected length that of path and tendon", card(at, path, length=length)
@@ -554,7 +554,7 @@ def refusals_at_slip():
     creeping = creep_edge(CREEPING, 1)._replace(slip=short.slip, length=short.length, curvature=short.curvature)
     yield "U·κ least above 2^56, before an %s" % too_long, card(creeping, path)
     base, path = anchored(ANCHORED._replace(jacking_stress=30000, **UNLOADED), x, length)
-    all_but_least = base.jacking_stress * TICKS + loss_by_friction(base, path) - LEAST_STRESS
+    all_but_least = base.jacking_stress * TICKS + friction_loss(base, path) - LEAST_STRESS
     under = reaching(base, path, all_but_least + 1)
     yield "stress under %d psi by slip along a path, by a tick" % least, card(under, path)
     yield "%d psi left by slip along a path, not by the first age" % least, card(less_es(under), path)

@@ -1,5 +1,5 @@
 """The text that the program `examples` must print, by tools/paper.py, and every number of the tables of docs/EXAMPLES.md beside the
-answers.
+answers and the sheets.
 """
 import re
 from math import exp, sqrt
@@ -18,6 +18,9 @@ CARDS = (
     "slab_fpy_235 slab_friction box_girder_b box_girder_c box_girder_d box_girder_e box_girder_f box_girder_g "
     "box_girder_seated_b box_girder_seated_c simple_span_b simple_span_c"
 ).split()
+
+# The cards whose elongation sheets stand behind all answers.
+SHEETS = ("box_girder_g", "simple_span_c")
 
 # The line of an answer before the ages; the ages' lines follow, numbered from 1.
 BEFORE = 0
@@ -86,6 +89,9 @@ SIMPLE_SPAN = [
     ("drop at the dead end", "simple_span_c", "drop"),
     ("stress at mid-span after seating", "simple_span_b", "stress"),
 ]
+
+# The segments whose elongations document 002's example 1 prints; its example 3 prints the total alone.
+SEGMENTS_OF_BOX_GIRDER = ("AB", "BC", "CD", "DE", "EF", "FG")
 
 # How far X and the stress after friction, in ksi, may lie from document 002's: its X has four places, its factor three, its stress one.
 X_TOLERANCE = 0.0001
@@ -177,7 +183,7 @@ def card_bytes(name):
 
 def compare_friction(checks, answers):
     """Document 002's table, and the friction of the slab. An answer has no X, so that is worked out from the card."""
-    heading = "Document 002, example 1"
+    heading = "Document 002, example 1: friction"
     for point, document_x, x_cell, document_stress, stress_cell, differs_cell in table(heading):
         name, where = "box_girder_" + point.lower(), "%s, %s: " % (heading, point)
         head, segments, _ = paper.read_card(card_bytes(name))
@@ -247,13 +253,26 @@ def box_girder_at_b():
     }
 
 
-def compare_seating(checks, answers, heading, quantities, worked_out):
-    """A table of an anchor set: the document's number, printed or worked out from those that are, the core's, and the tolerance."""
+def seatings(answers, quantities):
+    """The core's number of each quantity of an anchor set."""
+    return [(quantity, getattr(seating(answers, card), name)) for quantity, card, name in quantities]
+
+
+def elongations(sheet, segments):
+    """The core's number of each quantity of an elongation sheet, in inches: the elongations of these segments, and the total."""
+    *lines, total = sheet
+    of_segments = [("elongation of " + name, elongation) for name, (_, elongation) in zip(segments, lines)]
+    of_all = [("total elongation", total.sum), ("measurable elongation", total.measurable_part)]
+    return [(quantity, ticks / paper.TICKS) for quantity, ticks in of_segments + of_all]
+
+
+def compare_core(checks, heading, quantities, worked_out={}):
+    """A table of document 002: the document's number, printed or worked out from those that are, the core's, and the tolerance."""
     rows = table(heading)
-    checks.hold([row[0] for row in rows] == [quantity for quantity, _, _ in quantities], "the quantities under " + heading)
-    for (quantity, document_cell, core_cell, differs_cell, tolerance), (_, card, name) in zip(rows, quantities):
+    checks.hold([row[0] for row in rows] == [quantity for quantity, _ in quantities], "the quantities under " + heading)
+    for (quantity, document_cell, core_cell, differs_cell, tolerance), (_, core) in zip(rows, quantities):
         where = "%s, %s: " % (heading, quantity)
-        document, core = number(document_cell), getattr(seating(answers, card), name)
+        document = number(document_cell)
         if quantity in worked_out:
             checks.hold(says(document_cell, worked_out[quantity]), where + "by the document %f" % worked_out[quantity])
         checks.hold(says(core_cell, core), where + "%f" % core)
@@ -265,16 +284,24 @@ def answers_of_cards():
     return {name: paper.card_rows(card_bytes(name)) for name in CARDS}
 
 
-def text(answers):
-    """What the program prints: each card's answer below its name, then the readings."""
-    parts = [(name + ".card", rows) for name, rows in answers.items()] + readings()
+def sheets_of_cards():
+    return {name: paper.sheet_rows(card_bytes(name)) for name in SHEETS}
+
+
+def text(answers, sheets):
+    """What the program prints: each card's answer below its name, the sheets, then the readings."""
+    parts = [(name + ".card", rows) for name, rows in answers.items()]
+    parts += [("sheet of %s.card" % name, rows) for name, rows in sheets.items()]
+    parts += readings()
     return "".join(title + "\n" + "".join(map(paper.line_of, rows)) for title, rows in parts)
 
 
-def compare_all(checks, answers):
-    """Every number of the document's tables beside the answers."""
+def compare_all(checks, answers, sheets):
+    """Every number of the document's tables beside the answers and the sheets."""
     compare(checks, answers, "Document 001, design example 1", "double_tee", DOUBLE_TEE)
     compare(checks, answers, "Document 001, design example 3", "slab", SLAB)
     compare_friction(checks, answers)
-    compare_seating(checks, answers, "Document 002, example 2", SEATED_BOX_GIRDER, box_girder_at_b())
-    compare_seating(checks, answers, "Document 002, example 3", SIMPLE_SPAN, {})
+    compare_core(checks, "Document 002, example 1: elongation", elongations(sheets["box_girder_g"], SEGMENTS_OF_BOX_GIRDER))
+    compare_core(checks, "Document 002, example 2", seatings(answers, SEATED_BOX_GIRDER), box_girder_at_b())
+    compare_core(checks, "Document 002, example 3: anchor set", seatings(answers, SIMPLE_SPAN))
+    compare_core(checks, "Document 002, example 3: elongation", elongations(sheets["simple_span_c"], ()))

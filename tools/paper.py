@@ -1,8 +1,9 @@
 """The method of documents 01 and 02, written from the papers with whole numbers and fractions. It shares nothing with the core.
 
-`card_answer(card)` is what the report program prints for a card, `list_answer(..)` what a run of a list of doubles gives; every stored
-answer is held to them. The fields stand in one table, `LINES`, `SEGMENT` and `AGE`, and all else goes by their names: to add a field,
-add it there, with what the stored inputs take for it, and let tools/stored_answers.py --write lay them out anew.
+`card_answer(card)` is what the report program prints for a card, `list_answer(..)` what a run of a list of doubles gives,
+`sheet_answer(card)` what the sheet program prints for a card, `lent_sheet(..)` what a sheet with some room gives; every stored answer is
+held to them. The fields stand in one table, `LINES`, `SEGMENT` and `AGE`, and all else goes by their names: to add a field, add it there,
+with what the stored inputs take for it, and let tools/stored_answers.py --write lay them out anew.
 """
 import struct
 from collections import namedtuple
@@ -41,6 +42,9 @@ MOST_TRANSFER = 960
 
 # The power of X up to which document 02's W3 goes for e to the power -X/T.
 POWERS = 15
+
+# The measurable part of an elongation: document 002, example 1.
+MEASURABLE = Fraction(80, 100)
 
 
 # The table of fields
@@ -130,6 +134,7 @@ def record(name, fields):
 Head, Segment, Age = record("Head", HEAD), record("Segment", SEGMENT), record("Age", AGE)
 BeforeAges = namedtuple("BeforeAges", BEFORE_AGES)
 AgeLine = namedtuple("AgeLine", ("age", "hour") + ROW)
+Total = namedtuple("Total", ("sum", "measurable_part"))
 
 
 def field_of(name):
@@ -180,6 +185,7 @@ class Refusal(IntEnum):
     BUFFER = 10
     OVERSTRESS = 11
     ANCHOR_SET = 12
+    PRETENSIONED = 13
 
 
 ACCEPTED = (0, 0)
@@ -356,6 +362,12 @@ def check_hours(head, segments, ages):
         before = age.hour
 
 
+def check_to_hours(head, segments, ages):
+    check_codes(head, segments)
+    check_ranges(head, segments, ages)
+    check_hours(head, segments, ages)
+
+
 def friction(wobble, curvature, segments):
     """X."""
     x = 0
@@ -368,6 +380,11 @@ def friction(wobble, curvature, segments):
     return x
 
 
+def check_duct(head, segments):
+    check(head.kind == POST_TENSIONED or not segments, Refusal.DUCT, 1)
+    check(friction(head.wobble, head.curvature, segments) <= MOST_X, Refusal.DUCT, 2)
+
+
 def friction_factor(x):
     """The part of the jacking stress that friction leaves, in 1/T: e to the power -X/T, as document 02's W3 rounds it."""
     h = T
@@ -376,9 +393,21 @@ def friction_factor(x):
     return h
 
 
-def friction_loss(stress, x):
+def stress_left(jacked, x):
+    """What friction leaves of the jacking stress, in ticks of psi."""
+    return jacked * friction_factor(x) // T
+
+
+def stresses_along(head, segments):
+    """The jacking stress, and what friction leaves of it at each segment's end: "the stress after j segments takes X of the first j"."""
+    paths = [segments[:j] for j in range(len(segments) + 1)]
+    return [stress_left(head.jacking_stress * TICKS, friction(head.wobble, head.curvature, path)) for path in paths]
+
+
+def friction_loss(head, segments):
     """d: what friction takes of the jacking stress, in ticks of psi."""
-    return stress - stress * friction_factor(x) // T
+    stresses = stresses_along(head, segments)
+    return stresses[0] - stresses[-1]
 
 
 def path_length(segments):
@@ -410,12 +439,8 @@ def slip_loss(head, d, segments):
 
 def run(head, segments, ages, report_room=MOST_REPORT_ROOM, scratch_room=MOST_SCRATCH_ROOM):
     """The losses and the stress before the ages, and each age's line; rooms are in numbers."""
-    check_codes(head, segments)
-    check_ranges(head, segments, ages)
-    check_hours(head, segments, ages)
-    check(head.kind == POST_TENSIONED or not segments, Refusal.DUCT, 1)
-    x = friction(head.wobble, head.curvature, segments)
-    check(x <= MOST_X, Refusal.DUCT, 2)
+    check_to_hours(head, segments, ages)
+    check_duct(head, segments)
     check(report_room >= REPORT_NUMBERS_OF_AGE * len(ages), Refusal.BUFFER, 1)
     check(scratch_room >= SCRATCH_NUMBERS_OF_AGE * len(ages), Refusal.BUFFER, 2)
     kappa = head.steel_area * 2**32 // head.area + 4096 * head.steel_area * head.eccentricity**2 // head.inertia
@@ -448,7 +473,7 @@ def run(head, segments, ages, report_room=MOST_REPORT_ROOM, scratch_room=MOST_SC
     jacked = stress = head.jacking_stress * TICKS
     losses = []
     for loss in (
-        lambda stress: friction_loss(stress, x),
+        lambda stress: friction_loss(head, segments),
         lambda stress: slip_loss(head, jacked - stress, segments),
         lambda stress: head.deflector_loss * TICKS,
         lambda stress: relax(stress, early_logs) if head.kind == PRETENSIONED else 0,
@@ -473,6 +498,18 @@ def run(head, segments, ages, report_room=MOST_REPORT_ROOM, scratch_room=MOST_SC
         lines.append(AgeLine(number, age.hour, *losses, stress, gain))
         start, moments = end, added
     return before, lines
+
+
+def sheet(head, segments, ages, room=MOST_SEGMENTS):
+    """Document 02's W7: each segment's elongation, and their sum with its measurable part, in ticks of inch; the room is in numbers."""
+    check_to_hours(head, segments, ages)
+    check(head.kind == POST_TENSIONED, Refusal.PRETENSIONED, 1)
+    check_duct(head, segments)
+    check(room >= len(segments), Refusal.BUFFER, 1)
+    stresses = stresses_along(head, segments)
+    means = [Fraction(before + after, 2) for before, after in zip(stresses, stresses[1:])]
+    elongations = [floor(mean * inches(segment.length) / head.es) for mean, segment in zip(means, segments)]
+    return elongations, Total(sum(elongations), floor(MEASURABLE * sum(elongations)))
 
 
 # The answers
@@ -505,3 +542,22 @@ def list_answer(doubles, report_room, scratch_room):
         return refusal.args, None, None, []
     (last_stress,) = struct.unpack("<Q", struct.pack("<d", lines[-1].stress / TICKS))
     return ACCEPTED, before, last_stress, [[getattr(line, name) for name in ROW] for line in lines]
+
+
+def lent_sheet(card, room=MOST_SEGMENTS):
+    """Number and place; then, of an accepted card, each segment's elongation, and their total; of a refused one nothing."""
+    try:
+        return ACCEPTED, *sheet(*read_card(card), room)
+    except Refused as refusal:
+        return refusal.args, [], None
+
+
+def sheet_rows(card):
+    """The numbers of each line of a card's sheet."""
+    refusal, elongations, total = lent_sheet(card)
+    return [*enumerate(elongations, 1), total] if refusal == ACCEPTED else [refusal]
+
+
+def sheet_answer(card):
+    """What the sheet program prints for a card."""
+    return "".join(map(line_of, sheet_rows(card)))

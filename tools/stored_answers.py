@@ -2,19 +2,25 @@
 """Holds every stored answer to tools/paper.py, and every stored input to the layout of its table; with --write, lays the inputs out
 anew where the table has changed since they were stored, and writes every answer. Its last line is 'N passed, M failed'.
 
-The stored cards: crates/cases/data/cards, of which those from 0240 on are built by tools/edge_cards.py, the cards of crates/examples/data
-and the sample, crates/report/stdin. A card's answer is its .out file, or a part of the text that its program must print.
+The stored cards: crates/cases/data/cards, of which those from 0240 on are built by tools/edge_cards.py, the cards of crates/examples/data,
+the sample, crates/report/stdin, and the card of crates/sheet/stdin, which is one of the examples'. A card's answer is its .out file, or a
+part of the text that its program must print.
 The stored lists: a line of crates/cases/data/lists.txt for each, in four parts: numbers of room in report and scratch; the doubles, each
 as the 16 hexadecimal digits of its bits; number and place; and of an accepted list, in hexadecimal, the numbers before the ages, the bits
 of the last stress as a double, and each age's row.
+The stored sheets: a line of crates/cases/data/sheets.txt for each, in four parts: numbers of room; the card's bytes in hexadecimal; number
+and place; and of an accepted card, in hexadecimal, each segment's elongation, the sum and the measurable part. Those from line 204 on are
+built by tools/edge_sheets.py.
 Of include/stratelyn.h the plain numbers are written, and the sizes that it computes from them held; docs/INTEGRATION.md's table of sizes is
 written from them; docs/EXAMPLES.md is held, not written.
 """
 import json
+from itertools import zip_longest
 from pathlib import Path
 
 import c_hosts
 import edge_cards
+import edge_sheets
 import examples
 import layout
 import paper
@@ -26,10 +32,21 @@ CASES = ROOT / "crates" / "cases"
 CARDS = CASES / "data" / "cards"
 EDGES = CASES / "data" / "edges.txt"
 LISTS = CASES / "data" / "lists.txt"
+SHEETS = CASES / "data" / "sheets.txt"
+EDGE_SHEETS = CASES / "data" / "edge_sheets.txt"
 REPORT = ROOT / "crates" / "report"
+SHEET = ROOT / "crates" / "sheet"
 
-# The first card that is built by tools/edge_cards.py.
+# The first card that is built by tools/edge_cards.py, and the first line of sheets.txt that is by tools/edge_sheets.py.
 FIRST_EDGE = 240
+FIRST_EDGE_SHEET = 204
+
+# The card of the sheet program's own test.
+SHEET_CARD = "box_girder_g"
+
+# What the program `cases` fills a lent sheet with, so that it shows what is unwritten; how many of its numbers it prints on a line.
+UNWRITTEN = 9999999999999
+SHEET_NUMBERS_OF_LINE = 7
 
 
 def given_cards():
@@ -55,15 +72,40 @@ def list_texts(rooms, words):
     return "%d %d|%s|%d %d|%s" % (*rooms, " ".join(words), *refusal, numbers), printed
 
 
+def relaid_sheets(stored):
+    """The room and the card of each stored sheet that is not built, the card in the table's layout."""
+    for line in SHEETS.read_text().splitlines()[: FIRST_EDGE_SHEET - 1]:
+        room, card, *_ = line.split("|")
+        yield int(room), layout.relaid_card(bytes.fromhex(card), stored)
+
+
+def sheet_texts(room, card):
+    """A sheet's line in its file, and what the program `cases` prints for it, the whole lent buffer at the end."""
+    refusal, elongations, total = paper.lent_sheet(card, room)
+    numbers, printed = "-", paper.line_of(refusal)
+    if refusal == paper.ACCEPTED:
+        numbers = " ".join("%x" % number for number in [*elongations, *total])
+        printed += paper.line_of(total)
+    lent = elongations + [UNWRITTEN] * (room - len(elongations))
+    lines = [lent[at : at + SHEET_NUMBERS_OF_LINE] for at in range(0, room, SHEET_NUMBERS_OF_LINE)]
+    return "%d|%s|%d %d|%s" % (room, card.hex(), *refusal, numbers), printed + "".join(map(paper.line_of, lines))
+
+
+def write_lines(path, texts):
+    path.write_text("".join(line + "\n" for line, _ in texts))
+
+
 def hold_inputs(checks):
     """The stored inputs are in the table's layout. With --write, they are brought there."""
     stored, now = json.loads(LAYOUT.read_text()), layout.described()
     if WRITE and stored != now:
         cards = {card: layout.relaid_card(card.read_bytes(), stored) for card in given_cards()}
         lists = [list_texts(*case) for case in relaid_lists(stored)]
+        sheets = [sheet_texts(*case) for case in relaid_sheets(stored)]
         for card, data in cards.items():
             card.write_bytes(data)
-        LISTS.write_text("".join(line + "\n" for line, _ in lists))
+        write_lines(LISTS, lists)
+        write_lines(SHEETS, sheets)
     checks.file(LAYOUT, (json.dumps(now, indent=1) + "\n").encode())
     if checks.failed:
         print("the table of tools/paper.py has changed: --write lays the stored inputs out anew")
@@ -84,19 +126,31 @@ def hold_edges(checks):
     checks.hold(WRITE or not more, "no card is stored from %04d on that is not built" % FIRST_EDGE)
 
 
+def hold_lines(checks, path, texts):
+    """The lines of a file. With --write, it is given them."""
+    if WRITE:
+        write_lines(path, texts)
+    due = [line for line, _ in texts]
+    for number, (stored, line) in enumerate(zip_longest(path.read_text().splitlines(), due), 1):
+        checks.hold(stored == line, "line %d of %s" % (number, path.name))
+
+
 def hold_cases(checks):
-    """The answers of the cards and lists of `cases`, and what it must print."""
+    """The answers of the cards, lists and sheets of `cases`, and what it must print."""
     printed = ""
     for card in sorted(CARDS.glob("*.card")):
         answer = paper.card_answer(card.read_bytes())
         checks.file(card.with_suffix(".out"), answer.encode())
         printed += answer
-    was, texts = LISTS.read_text().splitlines(), [list_texts(*case) for case in relaid_lists(layout.described())]
-    if WRITE:
-        LISTS.write_text("".join(line + "\n" for line, _ in texts))
-    for number, (stored, (line, answer)) in enumerate(zip(was, texts), 1):
-        checks.hold(WRITE or stored == line, "line %d of lists.txt" % number)
-        printed += answer
+    now = layout.described()
+    built = edge_sheets.cases()
+    lists = [list_texts(*case) for case in relaid_lists(now)]
+    sheets = [sheet_texts(*case) for case in relaid_sheets(now)] + [sheet_texts(room, card) for _, room, card in built]
+    hold_lines(checks, LISTS, lists)
+    hold_lines(checks, SHEETS, sheets)
+    labels = ["%d %s\n" % (number, label) for number, (label, _, _) in enumerate(built, FIRST_EDGE_SHEET)]
+    checks.file(EDGE_SHEETS, "".join(labels).encode())
+    printed += "".join(answer for _, answer in lists + sheets)
     checks.file(CASES / "stdout", printed.encode())
 
 
@@ -107,9 +161,12 @@ def main():
     hold_cases(checks)
     sample = (REPORT / "stdin").read_bytes()
     checks.file(REPORT / "stdout", paper.card_answer(sample).encode())
-    answers = examples.answers_of_cards()
-    checks.file(examples.CRATE / "stdout", examples.text(answers).encode())
-    examples.compare_all(checks, answers)
+    sheet_card = examples.card_bytes(SHEET_CARD)
+    checks.file(SHEET / "stdin", sheet_card)
+    checks.file(SHEET / "stdout", paper.sheet_answer(sheet_card).encode())
+    answers, sheets = examples.answers_of_cards(), examples.sheets_of_cards()
+    checks.file(examples.CRATE / "stdout", examples.text(answers, sheets).encode())
+    examples.compare_all(checks, answers, sheets)
     c_hosts.hold(checks, sample, edge_cards.longest())
     checks.end()
 

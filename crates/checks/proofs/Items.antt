@@ -1,8 +1,8 @@
 -- The segments and the ages that are left when some are passed: the next one, and where none is left. Each is read off the list
 -- at its own place. Assumes nothing.
-use mathlib.Core.Path.{_≡_}
+use mathlib.Core.Path.{_≡_, refl, _∙_}
 use mathlib.Core.List.{List, [], _∷_}
-use Prim.Native.Nat.{ℕ, suc, _+_, _-_, _*_, _≤_, _<_}
+use Prim.Native.Nat.{ℕ, zero, suc, _+_, _-_, _*_, _≤_, _<_}
 use native.Mathlib.Nat.{add-zero, sub-zero}
 use native.Mathlib.Omega.{arith}
 use lib.ListN.{length, getD, drop, length-drop}
@@ -34,6 +34,16 @@ unfolding segmentsFrom
 next-segment list n k h =
     let on : perSegment * k + perSegment ≡ perSegment * (k + 1) = omega arith in
     rw (one-less h) (simp (getD-drop, drop-drop, add-zero, on))
+
+-- what is left of the segments is their list without those that are passed
+pub left-segments : (list : List ℕ) (n k : ℕ) → drop k (segmentsFrom n list) ≡ leftSegments list n k
+unfolding segmentsFrom
+left-segments list n zero = rw (sub-zero n)
+left-segments list zero (suc k) = let none : 0 - suc k ≡ 0 = omega arith in rw none
+left-segments list (suc n) (suc k) =
+    let on : perSegment + perSegment * k ≡ perSegment * suc k = omega arith in
+    let same : suc n - suc k ≡ n - k = omega arith in
+    left-segments (drop perSegment list) n k ∙ rw (same, drop-drop, ← on)
 
 pub no-segment : (list : List ℕ) (n k : ℕ) → n ≤ k → leftSegments list n k ≡ []
 unfolding segmentsFrom

@@ -3,3 +3,4 @@ pub mod RowPlaces
 pub mod Items
 pub mod Holding
 pub mod Cascade
+pub mod Reading

@@ -1,7 +1,6 @@
 pub mod Deciding
 pub mod Doubles
 pub mod Readers
-pub mod Padding
 mod Accepting
 mod Answering
 mod BufferRows

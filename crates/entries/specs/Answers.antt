@@ -12,7 +12,7 @@ use lib.ListN.{length, replicate}
 use Rattle.ticks.specs.Ticks.{ticksPerUnit}
 use Rattle.fields.specs.declared.refusal.Refusal.{Refusal}
 use Rattle.fields.specs.Outcomes.{OrRefusal, Gives, Refuses, over}
-use Rattle.fields.specs.Refusals.{number, place, mayAlterScratch}
+use Rattle.fields.specs.Refusals.{acceptanceNumber, number, place, mayAlterScratch}
 use Rattle.stages.specs.declared.before.BeforeAges.{BeforeAges}
 use Rattle.stages.specs.declared.intervals.Row.{Row}
 use Rattle.stages.specs.Run.{Report}
@@ -28,9 +28,6 @@ abbrev pub doubleOf : ℕ → Float
 doubleOf ticks = fin false ticks (negsuc 9)
 
 -- ---- the number: "The refusal number (0 if accepted)"
-
-abbrev pub acceptanceNumber : ℕ
-acceptanceNumber = 0
 
 abbrev pub answerNumber : Answer → ℕ
 answerNumber (Answer.Accepted reply) = acceptanceNumber

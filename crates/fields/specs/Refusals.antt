@@ -5,12 +5,17 @@ use lib.Dec.{eqb}
 use Rattle.fields.specs.Quantities.{fieldNumber}
 use Rattle.fields.specs.declared.refusal.Refusal.{Refusal}
 
+-- "The refusal number (0 if accepted)"
+abbrev pub acceptanceNumber : ℕ
+acceptanceNumber = 0
+
 abbrev pub number : Refusal → ℕ
 number (Refusal.Shape line) = 8
 number (Refusal.Doubles field) = 9
 number (Refusal.Codes field) = 1
 number (Refusal.Ranges field) = 2
 number (Refusal.Hours field) = 3
+number Refusal.Pretensioned = 13
 number (Refusal.Duct place) = 4
 number (Refusal.Buffers place) = 10
 number Refusal.Section = 5
@@ -25,6 +30,7 @@ place (Refusal.Doubles field) = field
 place (Refusal.Codes field) = field
 place (Refusal.Ranges field) = field
 place (Refusal.Hours field) = field
+place Refusal.Pretensioned = 1
 place (Refusal.Duct p) = p
 place (Refusal.Buffers p) = p
 place Refusal.Section = fieldNumber .area

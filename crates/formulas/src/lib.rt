@@ -1,7 +1,7 @@
 // The losses of each step and the gain, in ticks. Every division rounds down. What a function requires is that its products fit.
 ghost use mathlib.Core.Path.{_≡_};
 ghost use Prim.Native.Nat.{_-_, _<_};
-ghost use Rattle.formulas.specs.Steps.{frictionLoss, slipLoss, deflectorTicks, yield, relaxationDivisor, relaxationFactor};
+ghost use Rattle.formulas.specs.Steps.{stressLeft, frictionLoss, slipLoss, deflectorTicks, yield, relaxationDivisor, relaxationFactor};
 ghost use Rattle.formulas.specs.Steps.{relaxationLoss, momentStress, concreteStress, shorteningLoss, creepLoss, shrinkageLoss};
 ghost use Rattle.formulas.specs.Steps.{momentGain};
 ghost use Rattle.formulas.specs.Conditions.{strengthLimit, FrictionFits, SlipFits, DeflectorFits, RelaxationFits, FactorFits};
@@ -17,7 +17,7 @@ use ticks::TICKS_PER_UNIT;
 // 2^32: what κ is in parts of.
 pub const KAPPA_UNIT: u64 = 4_294_967_296;
 
-pub(crate) const INCHES_TO_A_FOOT: u64 = 12;
+pub const INCHES_TO_A_FOOT: u64 = 12;
 
 // Y: 0.85 F and 0.90 F.
 const STRESS_RELIEVED_YIELD: u64 = 85;
@@ -43,11 +43,18 @@ pub fn difference(later: u64, earlier: u64) -> u64
     if earlier < later { later - earlier } else { 0 }
 }
 
+pub fn stress_left(stress: u64, friction: u64) -> u64
+    requires { ⌜ FrictionFits stress friction ⌝ }
+    ensures { λ r. ⌜ r ≡ stressLeft stress friction ⌝ }
+{
+    stress * exponential::factor(friction) / T
+}
+
 pub fn friction_loss(stress: u64, friction: u64) -> u64
     requires { ⌜ FrictionFits stress friction ⌝ }
     ensures { λ r. ⌜ r ≡ frictionLoss stress friction ⌝ }
 {
-    stress - stress * exponential::factor(friction) / T
+    stress - stress_left(stress, friction)
 }
 
 pub fn slip_loss(es: u64, slip: u64, length: u64) -> u64

@@ -14,10 +14,9 @@ use Rattle.fields.specs.Quantities.{Segment, segmentsFrom, Age, isPretensioned,
 use Rattle.fields.specs.Outcomes.{Gives}
 use Rattle.fields.specs.Limits.{Range, range, mostOfStrength, hundredths, mostLength, mostMoment, leastStraight, leastParabola}
 use Rattle.fields.specs.Limits.{mostRise, mostAngle, leastMoistTransfer, mostFriction, reportRoom, scratchRoom, mostKappa}
-use Rattle.fields.specs.Limits.{mostCreepOfKappa}
+use Rattle.fields.specs.Limits.{mostCreepOfKappa, mostSegments}
 use Rattle.fields.specs.Sizes.{mostFields}
 use Rattle.fields.specs.declared.refusal.Refusal.the-variants.{Codes, Ranges, Hours, Duct, Buffers, Section, Creep}
-use Rattle.checks.specs.Readable.{Readable}
 use Rattle.checks.specs.Places.{headOf, rangesOfLine1, rangesOfLine2, rangesOfLine3, rangesOfLine4}
 use Rattle.checks.specs.Rows.{CheckRow, firstFailing, checkedBy, within, headCodes, segmentCodes, codes, rangesOfSegments}
 use Rattle.checks.specs.Rows.{rangesOfMoments, ranges, curingFits, transferFits, hoursOfAges, hours, duct, buffers, section, creep}
@@ -27,7 +26,8 @@ use Rattle.checks.proofs.RowPlaces.{path-codes-placed, path-ranges-placed, mome
 use Rattle.checks.proofs.Holding.{Holds, all-hold, part-holds, other-true, asked-true, in-range}
 use Rattle.checks.proofs.Cascade.{row-held, given-is}
 use Rattle.member.specs.declared.Member.{Member}
-use Rattle.member.specs.Member.{frictionOf, kappaOf, creepOf, memberOf, codesToDuct, buffersToCreep, checkedOf}
+use Rattle.member.specs.Member.{frictionOf, kappaOf, creepOf, memberOf, codesToHours, ductRow, codesToDuct, buffersToCreep}
+use Rattle.member.specs.Member.{checkedOf}
 use Rattle.member.specs.Facts.{PathFits, SegmentFits, SegmentsFit, no-segment, segment-fits, HeadFits, RisingFrom, no-age, rises}
 use Rattle.member.specs.Facts.{MomentsWithin, no-moment, adds, Facts}
 
@@ -278,11 +278,11 @@ module _ (q : Quantities) where
       }
 
 -- the segments of a card or a list, where they stand in its fields
-pub path-fits : (segments ages : ℕ) (fields : List ℕ) → length fields ≡ mostFields → Readable segments ages fields
+pub path-fits : (segments : ℕ) (fields : List ℕ) → length fields ≡ mostFields → segments ≤ mostSegments
     → SegmentsFit (segmentsFrom segments (drop headFields fields)) → PathFits segments (drop headFields fields)
-path-fits segments ages fields whole readable fit = record {
+path-fits segments fields whole few fit = record {
   room = rw length-drop (omega arith);
-  segments-most = readable .segments-most;
+  segments-most = few;
   segments-fit = fit;
 }
 
@@ -301,26 +301,35 @@ head-alone segments ages fields known =
       transferred = h .transferred;
     })
 
--- ---- the rows to "duct"
+-- ---- the rows to "hours", and that of the duct: what is known where they hold, and a value is given by those below
 
--- what is known where they hold, and a value is given by those below
-pub record ToDuct {A : Type 0} (q : Quantities) (rows : List CheckRow) (value given : A) : Type 0 where
+pub record ToHours {A : Type 0} (q : Quantities) (rows : List CheckRow) (value given : A) : Type 0 where
   pub fields : FieldsFit q
+  pub below : checkedBy rows value ≡ Gives given
+
+pub to-hours : {A : Type 0} (q : Quantities) (rows : List CheckRow) (value : A) {given : A}
+    → checkedBy (codesToHours q ++ rows) value ≡ Gives given → ToHours q rows value given
+to-hours q rows value e =
+    let codes-row = row-held Codes (codes q) _ value e in
+    let ranges-row = row-held Ranges (ranges q) _ value (codes-row .below) in
+    let hours-row = row-held Hours (hours q) _ value (ranges-row .below) in
+    record {
+      fields = fields-fit q (codes-row .no-place) (ranges-row .no-place) (hours-row .no-place);
+      below = hours-row .below;
+    }
+
+pub record DuctHeld {A : Type 0} (q : Quantities) (rows : List CheckRow) (value given : A) : Type 0 where
   pub no-path : isPretensioned q ≡ true → length (q .path) ≡ 0
   pub friction-most : frictionOf q ≤ mostFriction
   pub below : checkedBy rows value ≡ Gives given
 
-pub to-duct : {A : Type 0} (q : Quantities) (rows : List CheckRow) (value : A) {given : A}
-    → checkedBy (codesToDuct q ++ rows) value ≡ Gives given → ToDuct q rows value given
-to-duct q rows value e =
-    let codes-row = row-held Codes (codes q) _ value e in
-    let ranges-row = row-held Ranges (ranges q) _ value (codes-row .below) in
-    let hours-row = row-held Hours (hours q) _ value (ranges-row .below) in
+pub duct-held : {A : Type 0} (q : Quantities) (rows : List CheckRow) (value : A) {given : A}
+    → checkedBy (ductRow q ∷ rows) value ≡ Gives given → DuctHeld q rows value given
+duct-held q rows value e =
     let ducted = duct (isPretensioned q) (length (q .path)) (frictionOf q) in
-    let duct-row = row-held Duct ducted _ value (hours-row .below) in
+    let duct-row = row-held Duct ducted _ value e in
     let d : Holds ducted = all-hold (more (lit< tt) (more (lit< tt) none)) (duct-row .no-place) in
     record {
-      fields = fields-fit q (codes-row .no-place) (ranges-row .no-place) (hours-row .no-place);
       no-path = λ k. eqb-true (length (q .path)) 0 (asked-true (isPretensioned q) (eqb (length (q .path)) 0) (d .0) k);
       friction-most = leb-true (frictionOf q) mostFriction (d .1 .0);
       below = duct-row .below;
@@ -342,10 +351,11 @@ pub accepted : (q : Quantities) (report scratch : ℕ) {m : Member} → checkedO
     → AcceptedMember q report scratch m
 accepted q report scratch e =
     let value = memberOf q in
-    let top = to-duct q (buffersToCreep q report scratch) value (sym (by-rows q report scratch) ∙ e) in
+    let top = to-hours q (ductRow q ∷ buffersToCreep q report scratch) value (sym (by-rows q report scratch) ∙ e) in
+    let ducted = duct-held q (buffersToCreep q report scratch) value (top .below) in
     let known = top .fields in
     let lent = buffers (length (q .ages)) report scratch in
-    let buffers-row = row-held Buffers lent _ value (top .below) in
+    let buffers-row = row-held Buffers lent _ value (ducted .below) in
     let section-row = row-held (λ place. Section) (section (kappaOf q)) _ value (buffers-row .below) in
     let creep-row = row-held (λ place. Creep) (creep (creepOf q * kappaOf q)) _ value (section-row .below) in
     let b : Holds lent = all-hold (more (lit< tt) (more (lit< tt) none)) (buffers-row .no-place) in
@@ -358,8 +368,8 @@ accepted q report scratch e =
         segments-fit = known .segments;
         ages-rise = known .ages;
         moments-fit = known .moments;
-        no-path = top .no-path;
-        friction-most = top .friction-most;
+        no-path = ducted .no-path;
+        friction-most = ducted .friction-most;
         report-room = leb-true (reportRoom (length (q .ages))) report (b .0);
         scratch-room = leb-true (scratchRoom (length (q .ages))) scratch (b .1 .0);
         kappa-most = leb-true (kappaOf q) mostKappa (s .0);

@@ -4,6 +4,7 @@ use Prim.Native.Nat.{ℕ, _+_, _*_, _/_, _^_}
 use mathlib.Core.Bool.{cond}
 use mathlib.Core.List.{List, [], _∷_}
 use lib.Dec.{eqb}
+use lib.ListN.{take}
 use Rattle.ticks.specs.Ticks.{ticksPerUnit, T}
 use Rattle.fields.specs.Quantities.{Segment, parabola, bend, Quantities}
 use Rattle.formulas.specs.Steps.{stressLeft, kappaUnit}
@@ -51,10 +52,13 @@ curvaturePart curvature segment =
     (cond (eqb (segment .kind) parabola) (curvature * (2 * segment .rise) * T / (segment .length * million)) 0)
 
 -- "X sums, per segment, .. rounded separately"
+abbrev pub segmentFriction : ℕ → ℕ → Segment → ℕ
+segmentFriction wobble curvature segment = wobblePart wobble segment + curvaturePart curvature segment
+
 unfoldable pub pathFriction : ℕ → ℕ → List Segment → ℕ
 pathFriction wobble curvature [] = 0
 pathFriction wobble curvature (segment ∷ segments) =
-    wobblePart wobble segment + curvaturePart curvature segment + pathFriction wobble curvature segments
+    segmentFriction wobble curvature segment + pathFriction wobble curvature segments
 
 -- document 02, W5: "path length P", in ticks of foot; "3 bend (length 0, ..": a bend adds none
 unfoldable pub pathLength : List Segment → ℕ
@@ -65,6 +69,6 @@ pathLength (segment ∷ segments) = segment .length + pathLength segments
 abbrev pub jacked : Quantities → ℕ
 jacked q = q .jackingStress * ticksPerUnit
 
--- "the stress after j segments takes X of the first j": the stress left after these segments
-abbrev pub stressAlong : Quantities → List Segment → ℕ
-stressAlong q segments = stressLeft (jacked q) (pathFriction (q .wobble) (q .curvature) segments)
+-- "the stress after j segments takes X of the first j"; after none X is 0 and the factor T, so that it is the jacking stress
+abbrev pub stressAlong : Quantities → ℕ → ℕ
+stressAlong q j = stressLeft (jacked q) (pathFriction (q .wobble) (q .curvature) (take j (q .path)))

@@ -35,9 +35,18 @@ pub record PartFits (most factor : ℕ) (segment : Segment) : Type 0 where
   pub factor-most : factor ≤ most
   pub segment-fits : SegmentFits segment
 
--- more than either part of a segment's friction can be
+-- both parts
+pub record SegmentFrictionFits (wobble curvature : ℕ) (segment : Segment) : Type 0 where
+  pub wobble-most : wobble ≤ range .wobble .high
+  pub curvature-most : curvature ≤ range .curvature .high
+  pub segment-fits : SegmentFits segment
+
+-- more than either part of a segment's friction can be, and than both together
 abbrev pub mostPart : ℕ
 mostPart = 10 ^ 9
+
+abbrev pub mostSegmentFriction : ℕ
+mostSegmentFriction = 2 * mostPart
 
 -- what a path's length is computed from: segments with which `list` begins
 pub record PathFits (segments : ℕ) (list : List ℕ) : Type 0 where

@@ -76,10 +76,14 @@ memberOf q = record {
 
 -- ---- "Refusal by place of checking, top to bottom"
 
+abbrev pub codesToHours : Quantities → List CheckRow
+codesToHours q = row Refusal.Codes (codes q) ∷ row Refusal.Ranges (ranges q) ∷ row Refusal.Hours (hours q) ∷ []
+
+abbrev pub ductRow : Quantities → CheckRow
+ductRow q = row Refusal.Duct (duct (isPretensioned q) (length (q .path)) (frictionOf q))
+
 abbrev pub codesToDuct : Quantities → List CheckRow
-codesToDuct q =
-    row Refusal.Codes (codes q) ∷ row Refusal.Ranges (ranges q) ∷ row Refusal.Hours (hours q)
-    ∷ row Refusal.Duct (duct (isPretensioned q) (length (q .path)) (frictionOf q)) ∷ []
+codesToDuct q = codesToHours q ++ (ductRow q ∷ [])
 
 -- with room for so many numbers in report and scratch
 abbrev pub buffersToCreep : Quantities → ℕ → ℕ → List CheckRow

@@ -1,14 +1,15 @@
 // From numbered fields to an accepted member, or its refusal: codes, ranges, hours, duct, buffers, section and creep.
 ghost use mathlib.Core.Path.{_≡_};
-ghost use Rattle.fields.specs.Given.{numberGiven};
+ghost use mathlib.Core.List.{[], _∷_};
+ghost use Rattle.fields.specs.Given.{numberGiven, rowsGiven};
 ghost use Rattle.fields.specs.Quantities.{quantitiesOf};
 ghost use Rattle.checks.specs.Rows.{checkedBy};
 ghost use Rattle.checks.specs.Readable.{Readable};
 ghost use Rattle.checks.specs.Places.{headOf};
 ghost use Rattle.member.specs.Facts.{HeadFits, mostCreep, AtMost};
-ghost use Rattle.member.specs.Member.{hoursOf, frictionOf, creepOf, shrinkageOf, memberOf, codesToDuct, buffersToCreep};
-ghost use Rattle.member.specs.Member.{checkedOf};
-ghost use Rattle.member.specs.Checking.{checked, BelowDuct, Computed};
+ghost use Rattle.member.specs.Member.{hoursOf, frictionOf, creepOf, shrinkageOf, memberOf, codesToHours, ductRow};
+ghost use Rattle.member.specs.Member.{codesToDuct, buffersToCreep, checkedOf};
+ghost use Rattle.member.specs.Checking.{checked, BelowHours, BelowDuct, Computed};
 
 pub mod codes;
 pub mod path;
@@ -24,6 +25,7 @@ use fields::limits::MOST_KAPPA;
 use fields::places;
 use fields::refusal::NumberOrRefusal;
 use fields::refusal::Refusal;
+use fields::refusal::Rows;
 
 // What the run uses of an accepted member, by the papers' names. Its segments and its ages stay in the fields.
 pub struct Member {
@@ -159,24 +161,32 @@ fn check_below_duct(
     Checked::Accepted(member_of(fields, segments, ages, friction, kappa, creep))
 }
 
-// "Refusal by place of checking, top to bottom", from row "codes" to row "duct": X, or the first refusal.
-pub fn check_to_duct(fields: &[u64; MOST_FIELDS], segments: u64, ages: u64) -> NumberOrRefusal
+// "Refusal by place of checking, top to bottom", from row "codes" to row "hours".
+pub fn check_to_hours(fields: &[u64; MOST_FIELDS], segments: u64, ages: u64) -> Rows
     requires { ⌜ Readable segments ages (now fields) ⌝ }
-    ensures { λ r. ⌜ numberGiven r ≡ checkedBy (codesToDuct (quantitiesOf segments ages (now (fields .entry))))
-        (frictionOf (quantitiesOf segments ages (now (fields .entry)))) ⌝ }
+    ensures { λ r. ⌜ rowsGiven r ≡ checkedBy (codesToHours (quantitiesOf segments ages (now (fields .entry)))) tt ⌝ }
 {
     let failing = checks::codes::first_failing(fields, segments as usize);
     if failing != 0 {
-        return NumberOrRefusal::Refused(Refusal::Codes(failing));
+        return Rows::Refused(Refusal::Codes(failing));
     }
     let failing = checks::ranges::first_failing(fields, segments as usize, ages as usize);
     if failing != 0 {
-        return NumberOrRefusal::Refused(Refusal::Ranges(failing));
+        return Rows::Refused(Refusal::Ranges(failing));
     }
     let failing = checks::hours::first_failing(fields, segments as usize, ages as usize);
     if failing != 0 {
-        return NumberOrRefusal::Refused(Refusal::Hours(failing));
+        return Rows::Refused(Refusal::Hours(failing));
     }
+    Rows::Hold
+}
+
+// Row "duct", where those above hold: X, or its refusal.
+pub fn check_duct(fields: &[u64; MOST_FIELDS], segments: u64) -> NumberOrRefusal
+    requires { ⌜ BelowHours segments (now fields) ⌝ }
+    ensures { λ r. ⌜ numberGiven r ≡ checkedBy (ductRow (quantitiesOf segments 0 (now (fields .entry))) ∷ [])
+        (frictionOf (quantitiesOf segments 0 (now (fields .entry)))) ⌝ }
+{
     let friction = path::path_friction(
         from_element(fields, HEAD_FIELDS),
         segments as usize,
@@ -189,6 +199,18 @@ pub fn check_to_duct(fields: &[u64; MOST_FIELDS], segments: u64, ages: u64) -> N
         return NumberOrRefusal::Refused(Refusal::Duct(failing));
     }
     NumberOrRefusal::Number(friction)
+}
+
+// From row "codes" to row "duct": X, or the first refusal.
+fn check_to_duct(fields: &[u64; MOST_FIELDS], segments: u64, ages: u64) -> NumberOrRefusal
+    requires { ⌜ Readable segments ages (now fields) ⌝ }
+    ensures { λ r. ⌜ numberGiven r ≡ checkedBy (codesToDuct (quantitiesOf segments ages (now (fields .entry))))
+        (frictionOf (quantitiesOf segments ages (now (fields .entry)))) ⌝ }
+{
+    match check_to_hours(fields, segments, ages) {
+        Rows::Hold => check_duct(fields, segments),
+        Rows::Refused(refusal) => NumberOrRefusal::Refused(refusal),
+    }
 }
 
 // From row "codes" to row "creep": the accepted member, or the first refusal. `report` and `scratch` are the lengths of the lent

@@ -3,8 +3,10 @@ ghost use mathlib.Core.Path.{_≡_};
 ghost use Rattle.fields.specs.Quantities.{segmentsFrom};
 ghost use Rattle.fields.specs.Limits.{range};
 ghost use Rattle.checks.specs.Places.{segment};
-ghost use Rattle.member.specs.Constants.{wobblePart, curvaturePart, pathFriction, pathLength};
-ghost use Rattle.member.specs.Facts.{PartFits, PathFits, PathFrictionFits, mostPart, AtMost};
+ghost use Rattle.member.specs.Constants.{wobblePart, curvaturePart, segmentFriction, pathFriction};
+ghost use Rattle.member.specs.Constants.{pathLength};
+ghost use Rattle.member.specs.Facts.{PartFits, SegmentFrictionFits, PathFits, PathFrictionFits, mostPart};
+ghost use Rattle.member.specs.Facts.{mostSegmentFriction, AtMost};
 use fields::layout::PER_SEGMENT;
 use fields::places;
 use ticks::T;
@@ -32,6 +34,14 @@ fn curvature_part(curvature: u64, kind: u64, length: u64, rise: u64) -> u64
     0
 }
 
+// What a segment adds to X: its two parts.
+pub fn segment_friction(wobble: u64, curvature: u64, kind: u64, length: u64, rise: u64) -> u64
+    requires { ⌜ SegmentFrictionFits wobble curvature (segment kind length rise) ⌝ }
+    ensures { λ r. ⌜ AtMost mostSegmentFriction (segmentFriction wobble curvature (segment kind length rise)) r ⌝ }
+{
+    wobble_part(wobble, kind, length, rise) + curvature_part(curvature, kind, length, rise)
+}
+
 // X of the segments with which `part` begins.
 pub fn path_friction(part: &[u64], segments: usize, wobble: u64, curvature: u64) -> u64
     requires { ⌜ PathFrictionFits wobble curvature segments (now part) ⌝ }
@@ -44,8 +54,7 @@ pub fn path_friction(part: &[u64], segments: usize, wobble: u64, curvature: u64)
         let kind = part[at];
         let length = part[at + 1];
         let rise = part[at + 2];
-        friction += wobble_part(wobble, kind, length, rise);
-        friction += curvature_part(curvature, kind, length, rise);
+        friction += segment_friction(wobble, curvature, kind, length, rise);
         segment += 1;
     }
     friction

@@ -9,14 +9,14 @@ use lib.Dec.{T}
 use lib.Ieee.{isNan, binary64, toBits, ofBits}
 use lib.ListN.{take}
 use Rattle.fields.specs.declared.refusal.Refusal.{Refusal}
-use Rattle.fields.specs.Refusals.{number}
+use Rattle.fields.specs.Refusals.{acceptanceNumber, number}
 use Rattle.fields.specs.Outcomes.{OrRefusal, Gives, Refuses}
 use Rattle.fields.specs.Limits.{reportRoom}
+use Rattle.fields.proofs.Refusals.{refusal-number}
 use Rattle.entries.specs.declared.Reply.{Reply}
 use Rattle.entries.specs.declared.Answer.the-variants.{Accepted, Refused}
 use Rattle.stages.specs.Run.{Report}
-use Rattle.entries.specs.Answers.{acceptanceNumber, acceptanceValues, refusalValues, Answered}
-use Rattle.entries.proofs.Deciding.{refusal-number}
+use Rattle.entries.specs.Answers.{acceptanceValues, refusalValues, Answered}
 use Rattle.entries.proofs.Doubles.{same-bits, finite}
 use Rattle.numbers.specs.Numbers.{bytesPerNumber, room, bytesOfNumbers, written}
 use Rattle.stratelyn.specs.Conditions.{Front, Rowed, Replied}

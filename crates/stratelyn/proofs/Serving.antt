@@ -12,7 +12,8 @@ use Rattle.fields.specs.Outcomes.{Outcome, over, onward}
 use Rattle.fields.proofs.Accepted.{Accepted}
 use Rattle.fields.specs.Quantities.{quantitiesIn}
 use Rattle.stages.specs.Run.{resultOf}
-use Rattle.entries.proofs.Readers.{all-close, same-read}
+use Rattle.checks.proofs.Reading.{same-read}
+use Rattle.entries.proofs.Readers.{all-close}
 use Rattle.numbers.specs.Numbers.{room}
 use Rattle.stratelyn.specs.Hosts.{replyBytes, Hosted, Served}
 

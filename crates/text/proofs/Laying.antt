@@ -6,11 +6,11 @@ use Prim.Native.Nat.{ℕ, zero, suc, _+_, _-_, _*_, _/_, _≤_, _<_}
 use native.Mathlib.Numerals.{add-one}
 use native.Mathlib.Omega.{arith}
 use lib.ListN.{length, getD, take, drop, set, length-append, length-set}
-use lib.Seq.{set-split, set-at, drop-at, drop-cons, length-take-le, take-all, take-suc}
+use lib.Seq.{set-split, drop-at, length-take-le, take-all, take-suc}
 use borrow.Rule.Slice.PartMut.{midOf, putMid}
 use Rattle.fields.specs.Quantities.{columns}
 use Rattle.fields.specs.Outcomes.{over}
-use Rattle.fields.proofs.Buffers.{length-over, written-behind}
+use Rattle.fields.proofs.Buffers.{length-over, written-behind, set-behind}
 use Rattle.line.specs.Lines.{lineFeed, lineLength}
 use Rattle.text.specs.Columns.{digitOrSpace, firstColumns, inColumns, allInColumns, lineOf, Holds}
 use Rattle.text.specs.Conditions.{Counted}
@@ -91,14 +91,6 @@ all-append (x ∷ xs) ys = rw (all-append xs ys) (sym (append-assoc (inColumns x
 alone : (number : ℕ) → allInColumns (number ∷ []) ≡ inColumns number
 unfolding allInColumns
 alone number = append-nil (inColumns number)
-
-set-behind : (done old : List ℕ) (x at : ℕ) → length done ≡ at → at < length old
-    → set (over done old) at x ≡ over (done ++ (x ∷ [])) old
-set-behind done old x at e h =
-    let one : length (done ++ (x ∷ [])) ≡ suc (length done) = length-append done (x ∷ []) ∙ (omega arith) in
-    ap (λ (l : List ℕ). set (done ++ l) at x) (drop-cons old (length done) 0 (omega arith))
-    ∙ set-at done (getD old (length done) 0) (drop (suc (length done)) old) x at e
-    ∙ rw (one, append-assoc)
 
 -- a part that begins with the first numbers of a line, so many of them
 pub record Begun (old numbers part : List ℕ) (at done : ℕ) : Type 0 where

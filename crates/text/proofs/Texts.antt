@@ -20,9 +20,11 @@ use Rattle.fields.specs.Refusals.{place}
 use Rattle.fields.specs.Limits.{perRow}
 use Rattle.fields.specs.Sizes.{mostFields, mostReport, mostScratch}
 use Rattle.fields.proofs.Buffers.{length-over, written-behind}
+use Rattle.fields.proofs.Refusals.{refusal-number}
 use Rattle.stages.specs.declared.before.BeforeAges.{BeforeAges}
 use Rattle.stages.specs.declared.intervals.Row.{Row}
 use Rattle.stages.specs.Run.{Report, resultOf}
+use Rattle.checks.proofs.Reading.{same-read}
 use Rattle.card.specs.Card.{cardOutcome}
 use Rattle.card.specs.Conditions.{mostBytes}
 use Rattle.card.proofs.Laws.{card-accepted}
@@ -30,8 +32,6 @@ use Rattle.card.proofs.Behind.{behind}
 use Rattle.entries.specs.declared.Reply.{Reply}
 use Rattle.entries.specs.declared.Answer.the-variants.{Accepted, Refused}
 use Rattle.entries.specs.Answers.{numbersBefore, numbersOfRows, numbersWritten, Answered}
-use Rattle.entries.proofs.Deciding.{refusal-number}
-use Rattle.entries.proofs.Readers.{same-read}
 use Rattle.text.specs.Columns.{lineOf, Holds}
 use Rattle.text.specs.Conditions.{mostLineBytes, AgesFit, RunFits, linesOfAges}
 use Rattle.text.specs.Text.{refusalText, beforeText, agesText, resultText, readText, reportText}

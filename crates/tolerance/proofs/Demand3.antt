@@ -36,7 +36,7 @@ use Rattle.tolerance.specs.Demand.{stepsOf, exactAfterSlip, exactStresse
 use Rattle.tolerance.specs.Demand.{slipDiesOut, countedAtSlip, counted, coreAfterEarly, stressesBy}
 use Rattle.tolerance.specs.Demand.{stressesOf, coreAfterPath, coreStresses, Close, Falls, Linked, Demand3, lossesBefore}
 use Rattle.tolerance.specs.Demand.{lossesOfRows, gainsOfRows}
-use Rattle.tolerance.proofs.Path.{pathError, friction-of-part, segments-fit-take, exponent-not-negative, exponent-most, path-close}
+use Rattle.tolerance.proofs.Path.{pathError, some-factors, along-close}
 use Rattle.tolerance.proofs.Concrete.{highestStress}
 use Rattle.tolerance.proofs.Bounds.{low, low-top}
 use Rattle.tolerance.proofs.Allowance.{Allowance, narrow-allowance, wide-allowance}
@@ -60,38 +60,18 @@ module _ {q : Quantities} {report scratch : ℕ} (facts : Facts q report scratch
   abbrev segments : ℕ
   segments = length (q .path)
 
-  -- the core's stress after so many segments
-  abbrev along : ℕ → ℕ
-  along j = ticksAlong q (take j (q .path))
-
   count : length (coreStresses q given) ≡ stepsOf q
-  count = omega (arith, each-length-then along segments rest, stresses-count (given .rows), rows-count ran)
+  count = omega (arith, each-length-then (ticksAlong q) segments rest, stresses-count (given .rows), rows-count ran)
 
   -- ---- near after every step
 
   jacked-low : jacked q ≤ highestStress
   jacked-low = low-top facts (jacked q) (low facts (jacked q) (le-refl (jacked q)))
 
-  part-fits : (j : ℕ) → SegmentsFit (take j (q .path))
-  part-fits j = segments-fit-take j (facts .segments-fit)
-
-  part-count : (j : ℕ) → j ≤ segments → length (take j (q .path)) ≡ j
-  part-count j h = rw length-take (min-eq-left h)
-
-  part-few : (j : ℕ) → j ≤ segments → length (take j (q .path)) ≤ mostSegments
-  part-few j h = rw (part-count j h) (le-trans h few-segments)
-
-  part-most : (j : ℕ) → pathFriction (q .wobble) (q .curvature) (take j (q .path)) ≤ mostFriction
-  part-most j = le-trans (friction-of-part (q .wobble) (q .curvature) (q .path) j) (facts .friction-most)
-
-  some-factors : FactorsAlong q (λ j. sumTo powers (exponentAlong q j))
-  some-factors j h =
-      let part = take j (q .path) in
-      series .some-allowed (exponentAlong q j) (exponent-not-negative q part (part-fits j) (part-few j h) (part-most j))
-      (exponent-most q part (part-fits j) (part-few j h) (part-most j))
-
-  end-of-path : jacked q - before .friction ≡ ticksAlong q (q .path)
-  end-of-path = omega (arith, began .friction, stress-left-most (jacked q) (frictionOf q))
+  end-of-path : jacked q - before .friction ≡ ticksAlong q segments
+  end-of-path =
+      rw (take-all segments (q .path) (le-refl segments))
+      (omega (arith, began .friction, stress-left-most (jacked q) (frictionOf q)))
 
   module _ {δ step : ℕ} {choice : Choice} (allowed : Allowance δ step choice) (factors : FactorsAlong q (choice .factor)) where
     -- a segment, and slip, are well within a step each
@@ -102,29 +82,27 @@ module _ {q : Quantities} {report scratch : ℕ} (facts : Facts q report scratch
     slip-covered = omega (arith, mul-le-mul-left (suc segments) segment-covered)
 
     -- after the first j segments
-    along-close : (j : ℕ) → j ≤ segments → Within (whole (pathError j)) (whole (along j)) (stressAlong choice q j)
-    along-close j h =
-        rw (part-count j h) at
-        (path-close q (take j (q .path)) (part-fits j) (part-few j h) (part-most j) jacked-low (factors j h))
+    along : (j : ℕ) → j ≤ segments → Within (whole (pathError j)) (whole (ticksAlong q j)) (stressAlong (choice .factor) q j)
+    along = along-close q (facts .segments-fit) few-segments (facts .friction-most) jacked-low factors
 
-    along-path : (j : ℕ) → j < segments → Within (whole (suc j * step)) (whole (along (suc j))) (stressAlong choice q (suc j))
+    along-path : (j : ℕ) → j < segments → Within (whole (suc j * step)) (whole (ticksAlong q (suc j))) (stressAlong (choice .factor) q (suc j))
     along-path j h =
-        within-weaken (whole-order (omega (arith, mul-le-mul-left (suc j) segment-covered))) (along-close (suc j) h)
+        within-weaken (whole-order (omega (arith, mul-le-mul-left (suc j) segment-covered))) (along (suc j) h)
 
     -- slip over the tendon is one step more
     over-the-tendon : slipDiesOut q before ≡ false
         → Within (whole (suc segments * step)) (whole (coreAfterSlip q before))
-        (afterTendonSlip choice q (stressAlong choice q segments))
+        (afterTendonSlip choice q (stressAlong (choice .factor) q segments))
     over-the-tendon not =
-        let x = ticksAlong q (q .path) in
-        let y = stressAlong choice q segments in
+        let x = ticksAlong q segments in
+        let y = stressAlong (choice .factor) q segments in
         let slip = slips-over-the-tendon began not in
         rw (end-of-path, slip)
         (within-weaken
         (≼-trans (≼-of-≈ (≈-sym (whole-⊕ slipError (pathError segments)))) (whole-order slip-covered))
         (step-close (slip-keeps-distance choice q (larger (whole x) y)) (larger-left (whole x) y) (larger-right (whole x) y)
         (after-slip-near facts choice x (omega (arith, began .closes, slip, end-of-path)))
-        (rw (take-all segments (q .path) (le-refl segments)) at (along-close segments (le-refl segments)))))
+        (along segments (le-refl segments))))
 
     -- the steps counted at slip, and the exact stress there
     abbrev at-slip : ℕ
@@ -139,7 +117,7 @@ module _ {q : Quantities} {report scratch : ℕ} (facts : Facts q report scratch
       where
         by : (dies : Bool) → slipDiesOut q before ≡ dies
             → Within (whole (cond dies 0 (suc segments) * step)) (whole (coreAfterSlip q before))
-            (cond dies (whole (coreAfterSlip q before)) (afterTendonSlip choice q (stressAlong choice q segments)))
+            (cond dies (whole (coreAfterSlip q before)) (afterTendonSlip choice q (stressAlong (choice .factor) q segments)))
         by true so = within-weaken (whole-order (omega arith)) (within-refl (whole (coreAfterSlip q before)))
         by false not = over-the-tendon not
 
@@ -182,8 +160,8 @@ module _ {q : Quantities} {report scratch : ℕ} (facts : Facts q report scratch
         later i h =
             rw (
               le-ltb (segments + i) segments (omega arith),
-              each-then along segments rest i 0,
-              each-then (stressAlong choice q) segments exact-rest i (whole 0),
+              each-then (ticksAlong q) segments rest i 0,
+              each-then (stressAlong (choice .factor) q) segments exact-rest i (whole 0),
               add-sub-cancel-left segments i,
             )
             (from-slip i h)
@@ -192,13 +170,13 @@ module _ {q : Quantities} {report scratch : ℕ} (facts : Facts q report scratch
         by (yes less) =
             rw (
               lt-ltb place segments less,
-              each-at along segments rest place 0 less,
-              each-at (stressAlong choice q) segments exact-rest place (whole 0) less,
+              each-at (ticksAlong q) segments rest place 0 less,
+              each-at (stressAlong (choice .factor) q) segments exact-rest place (whole 0) less,
             )
             (along-path place less)
         by (no not-less) =
             let at : segments + (place - segments) ≡ place = omega arith in
-            subst CloseAt at (later (place - segments) (omega (arith, count, each-length-then along segments rest)))
+            subst CloseAt at (later (place - segments) (omega (arith, count, each-length-then (ticksAlong q) segments rest)))
 
     close : Close step choice q given
     close = record {
@@ -206,9 +184,9 @@ module _ {q : Quantities} {report scratch : ℕ} (facts : Facts q report scratch
       exact-count =
           omega (
             arith,
-            each-length-then (stressAlong choice q) segments exact-rest,
+            each-length-then (stressAlong (choice .factor) q) segments exact-rest,
             chain-lengths chain,
-            each-length-then along segments rest,
+            each-length-then (ticksAlong q) segments rest,
             count,
           );
       steps = close-at;
@@ -217,7 +195,7 @@ module _ {q : Quantities} {report scratch : ℕ} (facts : Facts q report scratch
 
   -- ---- the run's own numbers
 
-  falls : Falls (jacked q) (ticksAlong q (q .path) ∷ coreAfterPath q before)
+  falls : Falls (jacked q) (ticksAlong q segments ∷ coreAfterPath q before)
   unfolding Falls
   falls = let adds-up = began .closes in (omega (arith, end-of-path), (omega (arith, end-of-path), (omega arith, (omega arith, tt))))
 
@@ -227,7 +205,7 @@ module _ {q : Quantities} {report scratch : ℕ} (facts : Facts q report scratch
   reported-last : getD (coreStresses q given) (segments + length (q .ages) + 2) 0 ≡ given .last
   reported-last =
       let place : segments + length (q .ages) + 2 ≡ segments + suc (suc (length (q .ages))) = omega arith in
-      rw (place, each-then along segments rest (suc (suc (length (q .ages)))) 0) (ages-end ran)
+      rw (place, each-then (ticksAlong q) segments rest (suc (suc (length (q .ages)))) 0) (ages-end ran)
 
   linked : Linked q given
   linked = record {
@@ -245,7 +223,7 @@ demand-3 q report scratch few-segments few-ages facts given result =
     record {
       narrow = λ factor factors. close facts few-segments few-ages began ran narrow-allowance factors;
       wide = λ choice admissible. close facts few-segments few-ages began ran (wide-allowance admissible) (admissible .factors);
-      some-factors = some-factors facts few-segments few-ages began ran;
+      some-factors = some-factors q (facts .segments-fit) few-segments (facts .friction-most);
       slip-exact = slips-exactly began;
       falls = falls facts few-segments few-ages began ran;
       rises = ages-rise facts ran;

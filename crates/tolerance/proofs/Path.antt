@@ -6,10 +6,10 @@ use mathlib.Core.Path.{_≡_, refl}
 use mathlib.Core.Bool.{Bool, true, false, cond}
 use mathlib.Core.List.{List, [], _∷_}
 use Prim.Native.Nat.{ℕ, zero, suc, _+_, _*_, _/_, _≤_}
-use native.Mathlib.Nat.{le-trans, mul-pos}
+use native.Mathlib.Nat.{le-trans, mul-pos, min-eq-left}
 use native.Mathlib.Omega.{arith}
 use lib.Dec.{eqb, lit<, lit≤}
-use lib.ListN.{length, take}
+use lib.ListN.{length, take, length-take}
 use borrow.Author.Tests.{eqb-true}
 use Rattle.fraction.specs.Fraction.{Fraction, whole, _⊕_, _⊗_, _÷_, _≼_, Within}
 use Rattle.fraction.specs.Equality.{_≈_}
@@ -19,16 +19,19 @@ use Rattle.fraction.proofs.Quotients.{quotient-not-negative, quotient-times}
 use Rattle.fraction.proofs.Distances.{within-refl, within-weaken, within-resp-≈}
 use Rattle.fraction.proofs.Certificate.{_⊠_, _≐_, identity}
 use Rattle.ticks.specs.Ticks.{ticksPerUnit, T}
-use Rattle.exponential.specs.Factor.{factor}
-use Rattle.exponential.specs.Series.{BySeries}
+use Rattle.exponential.specs.Factor.{factor, powers}
+use Rattle.exponential.specs.Series.{sumTo, BySeries}
 use Rattle.exponential.proofs.Turns.{factor-most}
-use Rattle.exponential.proofs.Series.{factorError, factor-near}
+use Rattle.exponential.proofs.Series.{series, factorError, factor-near}
 use Rattle.fields.specs.Quantities.{Quantities, Segment, parabola, bend}
 use Rattle.fields.specs.Limits.{mostSegments, mostFriction}
 use Rattle.member.specs.Constants.{million, pathFriction as ticksFriction, wobblePart as ticksWobble}
 use Rattle.member.specs.Constants.{curvaturePart as ticksCurvature, jacked, stressAlong as ticksAlong}
+use Rattle.member.specs.Member.{frictionOf}
 use Rattle.member.specs.Facts.{SegmentFits, SegmentsFit, no-segment, segment-fits}
+use Rattle.formulas.specs.Steps.{stressLeft}
 use Rattle.tolerance.specs.Formulas.{wobblePart, curvaturePart, pathFriction}
+use Rattle.tolerance.specs.Method.{exponentAlong, FactorsAlong, stressAlong}
 use Rattle.tolerance.proofs.Rounded.{Rounded, rounded-weaken, rounded-exact, rounded-whole-sum, rounded-not-negative}
 use Rattle.tolerance.proofs.Rounded.{floor-rounded, product-near}
 use Rattle.tolerance.proofs.Concrete.{highestStress}
@@ -90,12 +93,12 @@ module _ (wobble curvature : ℕ) where
   friction-of-part [] (suc j) = omega arith
   friction-of-part (segment ∷ segments) (suc j) = omega (arith, friction-of-part segments j)
 
-pub segments-fit-take : (j : ℕ) {path : List Segment} → SegmentsFit path → SegmentsFit (take j path)
+segments-fit-take : (j : ℕ) {path : List Segment} → SegmentsFit path → SegmentsFit (take j path)
 segments-fit-take zero fit = no-segment
 segments-fit-take (suc j) no-segment = no-segment
 segments-fit-take (suc j) (segment-fits fits rest) = segment-fits fits (segments-fit-take j rest)
 
--- ---- the stress along the path
+-- ---- the stress after some segments
 
 -- what the units cost at the highest stress, and the division of the stress left
 units-room : (n : ℕ)
@@ -119,11 +122,11 @@ module _ (q : Quantities) (segments : List Segment) (fits : SegmentsFit segments
   X-rounded : Rounded (whole (partsOfSegment * length segments)) X exact
   X-rounded = path-rounded (q .wobble) (q .curvature) fits
 
-  pub exponent-not-negative : whole 0 ≼ exact ⊗ (1 ÷ T)
+  exponent-not-negative : whole 0 ≼ exact ⊗ (1 ÷ T)
   exponent-not-negative = ⊗-not-negative (rounded-not-negative X-rounded) (quotient-not-negative 1 T)
 
   -- the unrounded X passes 1.5 T by two for each segment at the most
-  pub exponent-most : exact ⊗ (1 ÷ T) ≼ whole 2
+  exponent-most : exact ⊗ (1 ÷ T) ≼ whole 2
   exponent-most =
       let short = partsOfSegment * length segments in
       ≼-trans
@@ -131,8 +134,8 @@ module _ (q : Quantities) (segments : List Segment) (fits : SegmentsFit segments
       (≼-trans (X-rounded .greatest) (≼-trans (≼-of-≈ (≈-sym (whole-⊕ X short))) (whole-order (omega arith)))))
       twice
 
-  pub path-close : {φ : Fraction} → jacked q ≤ highestStress → BySeries (exact ⊗ (1 ÷ T)) φ
-      → Within (whole (pathError (length segments))) (whole (ticksAlong q segments)) (whole (jacked q) ⊗ φ)
+  path-close : {φ : Fraction} → jacked q ≤ highestStress → BySeries (exact ⊗ (1 ÷ T)) φ
+      → Within (whole (pathError (length segments))) (whole (stressLeft (jacked q) X)) (whole (jacked q) ⊗ φ)
   path-close {φ} small allowed =
       within-weaken (units-room (length segments))
       (within-resp-≈ ≈-refl cancelled
@@ -145,3 +148,31 @@ module _ (q : Quantities) (segments : List Segment) (fits : SegmentsFit segments
       cancelled =
           identity (whole (jacked q) ∷ whole T ∷ φ ∷ 1 ÷ T ∷ []) (λ F N P Q. F ⊠ (N ⊠ P) ⊠ Q ≐ F ⊠ (N ⊠ Q ⊠ P)) tt
           ⨾ ⊗-cong ≈-refl (⊗-cong (quotient-times 1 T (lit< tt)) ≈-refl ⨾ one-⊗ φ)
+
+-- ---- the stress along a member's path
+
+module _ (q : Quantities) (fits : SegmentsFit (q .path)) (few : length (q .path) ≤ mostSegments) (most : frictionOf q ≤ mostFriction) where
+  part-fits : (j : ℕ) → SegmentsFit (take j (q .path))
+  part-fits j = segments-fit-take j fits
+
+  part-count : (j : ℕ) → j ≤ length (q .path) → length (take j (q .path)) ≡ j
+  part-count j h = rw length-take (min-eq-left h)
+
+  part-few : (j : ℕ) → j ≤ length (q .path) → length (take j (q .path)) ≤ mostSegments
+  part-few j h = rw (part-count j h) (le-trans h few)
+
+  part-most : (j : ℕ) → ticksFriction (q .wobble) (q .curvature) (take j (q .path)) ≤ mostFriction
+  part-most j = le-trans (friction-of-part (q .wobble) (q .curvature) (q .path) j) most
+
+  pub some-factors : FactorsAlong q (λ j. sumTo powers (exponentAlong q j))
+  some-factors j h =
+      let part = take j (q .path) in
+      series .some-allowed (exponentAlong q j) (exponent-not-negative q part (part-fits j) (part-few j h) (part-most j))
+      (exponent-most q part (part-fits j) (part-few j h) (part-most j))
+
+  -- after the first j segments
+  pub along-close : jacked q ≤ highestStress → {factor : ℕ → Fraction} → FactorsAlong q factor → (j : ℕ) → j ≤ length (q .path)
+      → Within (whole (pathError j)) (whole (ticksAlong q j)) (stressAlong factor q j)
+  along-close small factors j h =
+      rw (part-count j h) at
+      (path-close q (take j (q .path)) (part-fits j) (part-few j h) (part-most j) small (factors j h))

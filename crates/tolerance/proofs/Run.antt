@@ -14,10 +14,10 @@ use Rattle.fields.specs.Outcomes.{OrRefusal, Gives, onward}
 use Rattle.fields.specs.Quantities.{Quantities, Age}
 use Rattle.fields.specs.Limits.{leastStress}
 use Rattle.fields.proofs.Onward.{through}
-use Rattle.member.specs.Member.{memberOf, pathLengthOf}
+use Rattle.member.specs.Member.{memberOf, frictionOf, pathLengthOf}
 use Rattle.member.specs.Facts.{Facts}
-use Rattle.member.specs.Constants.{jacked, stressAlong as ticksAlong}
-use Rattle.formulas.specs.Steps.{dropAtJack, slipLoss, deflectorTicks, momentGain}
+use Rattle.member.specs.Constants.{jacked}
+use Rattle.formulas.specs.Steps.{stressLeft, dropAtJack, slipLoss, deflectorTicks, momentGain}
 use Rattle.formulas.proofs.Drop.{both-above, is-drop}
 use Rattle.stages.specs.declared.before.BeforeAges.{BeforeAges}
 use Rattle.stages.specs.declared.ends.End.{End}
@@ -55,7 +55,7 @@ rises-on q number stress gain next e =
 
 -- the five losses, each from the stress before it, and the stress that they leave
 pub record Began (q : Quantities) (before : BeforeAges) : Type 0 where
-  pub friction : before .friction ≡ jacked q - ticksAlong q (q .path)
+  pub friction : before .friction ≡ jacked q - stressLeft (jacked q) (frictionOf q)
   pub slip : slipOf (memberOf q) ≡ Gives (before .slip)
   pub deflector : before .deflector ≡ deflectorTicks (q .deflectorLoss)
   pub early : before .«early_relaxation» ≡ earlyRelaxationOf (memberOf q) (coreAfterDeflector q before)
@@ -72,7 +72,7 @@ begun : (q : Quantities) {before : BeforeAges} → begunOf (memberOf q) ≡ Give
 unfolding begunOf seated memberOf
 begun q e =
     let m = memberOf q in
-    let f = jacked q - ticksAlong q (q .path) in
+    let f = jacked q - stressLeft (jacked q) (frictionOf q) in
     let d = deflectorTicks (q .deflectorLoss) in
     let sat = through (seated m) _ e in
     let (rubbed, e) = goes-on beforeAges (jacked q) f _ (sat .given-is) in
@@ -102,7 +102,7 @@ slips-over-the-tendon {q} began not = given-over-the-tendon (memberOf q) (began 
 pub slips-exactly : {q : Quantities} {before : BeforeAges} → Began q before → slipDiesOut q before ≡ true → SlipIsExact q before
 unfolding memberOf
 slips-exactly {q} {before} began so =
-    let d = jacked q - ticksAlong q (q .path) in
+    let d = jacked q - stressLeft (jacked q) (frictionOf q) in
     let given = given-at-the-section (memberOf q) (began .slip) (rw (began .friction) at so) in
     record {
       drop = dropAtJack d (q .Es) (q .slip) (pathLengthOf q);

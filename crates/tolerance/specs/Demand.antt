@@ -4,7 +4,7 @@ use Prim.Native.Nat.{ℕ, zero, suc, _+_, _-_, _*_, _≤_, _<_}
 use mathlib.Core.Bool.{Bool, true, false, cond}
 use mathlib.Core.List.{List, [], _∷_, _++_}
 use lib.Dec.{ltb}
-use lib.ListN.{length, take, getD}
+use lib.ListN.{length, getD}
 use mathlib.Core.Path.{_≡_}
 use Rattle.fraction.specs.Fraction.{Fraction, whole, Within}
 use Rattle.fields.specs.Quantities.{Quantities, Age}
@@ -51,7 +51,7 @@ coreAfterPath q before = coreAfterSlip q before ∷ coreAfterEarly q before ∷ 
 
 abbrev pub coreStresses : Quantities → Report → List ℕ
 coreStresses q report =
-    each (length (q .path)) (λ j. ticksAlong q (take j (q .path))) ++ (coreAfterPath q (report .before) ++ stressesOf (report .rows))
+    each (length (q .path)) (ticksAlong q) ++ (coreAfterPath q (report .before) ++ stressesOf (report .rows))
 
 -- ---- in fractions
 
@@ -67,12 +67,12 @@ slipDiesOut q before = diesOut (before .friction) (pathLengthOf q)
 -- "a path under the new rule entering the fraction method with the core's own stress after slip"
 abbrev pub exactAfterSlip : Choice → Quantities → BeforeAges → Fraction
 exactAfterSlip choice q before =
-    cond (slipDiesOut q before) (whole (coreAfterSlip q before)) (afterTendonSlip choice q (stressAlong choice q (length (q .path))))
+    cond (slipDiesOut q before) (whole (coreAfterSlip q before)) (afterTendonSlip choice q (stressAlong (choice .factor) q (length (q .path))))
 
 -- the stress after every step, beside the core's
 abbrev pub exactStresses : Choice → Quantities → BeforeAges → List Fraction
 exactStresses choice q before =
-    each (length (q .path)) (stressAlong choice q)
+    each (length (q .path)) (stressAlong (choice .factor) q)
     ++ (exactAfterSlip choice q before ∷ stressesBy (stepsAfterSlip choice q) (exactAfterSlip choice q before))
 
 -- ---- how far apart
@@ -162,7 +162,7 @@ pub data EachRisesByGain (q : Quantities) : (moments stress : ℕ) → List Age 
 -- "the core's after a step is the one these lines give in ticks, and where reply or report has it, the number there". By the sums none
 -- of the differences in `coreStresses` is cut at 0, and by the count every age has its row.
 pub record Linked (q : Quantities) (report : Report) : Type 0 where
-  pub path-end : ticksAlong q (q .path) + report .before .friction ≡ jacked q
+  pub path-end : ticksAlong q (length (q .path)) + report .before .friction ≡ jacked q
   pub reply : report .before .stress + lossesBefore (report .before) ≡ jacked q
   pub rows-count : length (report .rows) ≡ length (q .ages)
   pub last : getD (coreStresses q report) (length (q .path) + length (q .ages) + 2) 0 ≡ report .last
@@ -175,7 +175,7 @@ pub record Demand3 (q : Quantities) (report : Report) : Type 0 where
   pub some-factors : FactorsAlong q (λ j. sumTo powers (exponentAlong q j))
   -- document 02, W5: "Z itself is exact by its two squares"
   pub slip-exact : slipDiesOut q (report .before) ≡ true → SlipIsExact q (report .before)
-  pub falls : Falls (jacked q) (ticksAlong q (q .path) ∷ coreAfterPath q (report .before))
+  pub falls : Falls (jacked q) (ticksAlong q (length (q .path)) ∷ coreAfterPath q (report .before))
   pub rises : EachRisesByGain q (q .ownWeightMoment) (report .before .stress) (q .ages) (report .rows)
   pub closes :
       jacked q + gainsOfRows (report .rows) ≡ report .last + lossesBefore (report .before) + lossesOfRows (report .rows)

@@ -33,6 +33,10 @@ exponentAlong q j = pathFriction (q .wobble) (q .curvature) (take j (q .path)) �
 abbrev pub FactorsAlong : Quantities → (ℕ → Fraction) → Type 0
 FactorsAlong q factor = (j : ℕ) → j ≤ length (q .path) → BySeries (exponentAlong q j) (factor j)
 
+-- 1. document 02, W3: "f times e to the power −X/T", where "the stress after j segments takes X of the first j"
+abbrev pub stressAlong : (ℕ → Fraction) → Quantities → ℕ → Fraction
+stressAlong factor q j = whole (jacked q) ⊗ factor j
+
 -- "one choice for the whole run gives each hour h a fraction from L(h) to L(h) + 1, no later hour a smaller one"; and factors as above
 pub record Admissible (q : Quantities) (choice : Choice) : Type 0 where
   pub least : (hour : ℕ) → 1 ≤ hour → hour ≤ serviceLife → whole (logarithm hour) ≼ choice .log hour
@@ -52,10 +56,6 @@ pub record End : Type 0 where
   pub logarithm : Fraction
 
 module _ (choice : Choice) (q : Quantities) where
-  -- 1. document 02, W3: "f times e to the power −X/T", where "the stress after j segments takes X of the first j"
-  abbrev pub stressAlong : ℕ → Fraction
-  stressAlong j = whole (jacked q) ⊗ choice .factor j
-
   -- 2. slip over the tendon; where it dies out along the path the method is entered anew (`exactAfterSlip`). Then the deflector loss, which
   -- is no step
   abbrev pub afterTendonSlip : Fraction → Fraction

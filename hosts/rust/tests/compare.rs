@@ -1,14 +1,20 @@
 //! The core against the papers' method as the tests write it, on random inputs: good members, some with long ducts, a quarter of all with
 //! an anchor set that dies out along the duct, members with too many ages, edges of every range, damaged bytes, NaN payloads, odd lengths,
-//! short buffers. Every byte of reply, report and scratch is compared. And cards with a blank slip, against the same cards that write it.
+//! short buffers. Every byte of reply, report and scratch is compared. And cards with a blank slip, against the same cards that write it;
+//! and the elongation sheets of random cards as the program prints them, as C hosts have no entry for these.
 
 mod paper;
 
 use paper::Field::*;
-use paper::{age, head_lines, in_ticks, read_card, read_list, refused, segment, Answer, Field, Member, Paper, Reading, Refusal, Run};
+use paper::{age, elongation_sheet, head_lines, in_ticks, is_long, printed_line, range, read_card, read_list, refused, segment};
+use paper::{Answer, Field, Member, Paper, Reading, Refusal, Run, Sheet, Stretch};
 use paper::{ACCELERATED, AGE_FIELDS, BEND, BLANK_SLIP, CODES, COLUMNS, FIRST_CODE, HEAD_FIELDS, LAST_CODE, LEAST_AGES, LEAST_TRANSFER};
 use paper::{LEAST_TRANSFER_IF_MOIST, LIFE, MOIST, MOST_AGES, MOST_CURING_IF_MOIST, MOST_SEGMENTS, MOST_STRENGTH, MOST_TRANSFER};
 use paper::{PARABOLA, POST_TENSIONED, PRETENSIONED, RANGES, ROW_NUMBERS, SCRATCH_NUMBERS_OF_AGE, SEGMENT_FIELDS, STRAIGHT, TICKS};
+use std::io::Write;
+use std::path::{Path, PathBuf};
+use std::process::{Command, Stdio};
+use std::thread;
 use stratelyn::REPLY_BYTES;
 
 const CASES: usize = 200_000;
@@ -17,8 +23,14 @@ const BYTES_OF_NUMBER: usize = 8;
 /// An answer is accepted, 0, or one of the refusals.
 const ANSWERS: usize = refused::LAST as usize + 1;
 
-/// Each answer comes up at least so often.
+/// Each answer and kind comes up at least so often.
 const LEAST_COUNT: usize = 50;
+
+/// Cards whose sheets are compared, a process for each; the threads that start these; and the room that the program lends, enough for
+/// every card.
+const SHEETS: usize = 10_000;
+const SHEET_THREADS: usize = 2;
+const SHEET_ROOM: usize = MOST_SEGMENTS as usize;
 
 /// At least one case in so many sets its anchor along a duct, by document 02's W5.
 const CASES_TO_A_SET: usize = 4;
@@ -166,16 +178,24 @@ fn member(r: &mut Random) -> Vec<u64> {
     f
 }
 
+/// The losses of a member, with room for every row.
+fn losses(paper: &Paper, member: &Member) -> Answer {
+    let room = ROW_NUMBERS.max(SCRATCH_NUMBERS_OF_AGE) * MOST_AGES as usize;
+    paper.run(member, room, room)
+}
+
 /// Makes the tendon as long as the slip reaches, or a tick shorter or longer, if document 02's W5 rules at the member's slip.
 fn end_where_the_set_does(r: &mut Random, paper: &Paper, f: &mut [u64]) {
-    let room = ROW_NUMBERS.max(SCRATCH_NUMBERS_OF_AGE) * MOST_AGES as usize;
-    if let Some(set) = paper.run(&Member(f.to_vec()), room, room).anchor_set {
+    if let Some(set) = losses(paper, &Member(f.to_vec())).anchor_set {
         f[Length.at()] = (set.affected_length() + r.below(3)).saturating_sub(1);
     }
 }
 
-/// Puts some fields at or just past an end, or anywhere.
-fn disturb(r: &mut Random, edges: &[(Field, u64, u64)], f: &mut [u64]) {
+/// At times makes the tendon end where its anchor set does; then puts some fields at or just past an end, or anywhere.
+fn disturb(r: &mut Random, paper: &Paper, edges: &[(Field, u64, u64)], f: &mut [u64]) {
+    if r.one_in(8) {
+        end_where_the_set_does(r, paper, f);
+    }
     for _ in 0..r.pick(&[0, 0, 1, 1, 1, 2, 3]) {
         if r.one_in(3) {
             let at = r.below(f.len() as u64) as usize;
@@ -236,6 +256,13 @@ fn card_text(r: &mut Random, f: &[u64]) -> Vec<u8> {
         }
     }
     bytes
+}
+
+/// A card of these fields, and what the papers read of it.
+fn card_input(r: &mut Random, f: &[u64]) -> (Vec<u8>, Reading) {
+    let card = card_text(r, f);
+    let reading = read_card(&card);
+    (card, reading)
 }
 
 fn list_bits(r: &mut Random, f: &[u64]) -> Vec<u64> {
@@ -349,10 +376,7 @@ impl Case {
     /// `input` gives the bytes of a member's fields, and what the papers read of them.
     fn new(r: &mut Random, paper: &Paper, edges: &[(Field, u64, u64)], input: impl Fn(&mut Random, &[u64]) -> (Vec<u8>, Reading)) -> Self {
         let mut f = member(r);
-        if r.one_in(8) {
-            end_where_the_set_does(r, paper, &mut f);
-        }
-        disturb(r, edges, &mut f);
+        disturb(r, paper, edges, &mut f);
         let (bytes, reading) = input(r, &f);
         let was = Buffers::new(r, f[Ages.at()]);
         let room = |buffer: &[u8]| buffer.len() / BYTES_OF_NUMBER;
@@ -372,10 +396,37 @@ impl Case {
     }
 }
 
+/// How many cases gave each answer.
+#[derive(Default)]
+struct AnswerCounts([usize; ANSWERS]);
+
+impl AnswerCounts {
+    fn count<T>(&mut self, due: &Result<T, Refusal>) {
+        self.0[due.as_ref().err().map_or(0, |&(number, _)| number as usize)] += 1;
+    }
+
+    /// The tests would show little if an answer came up hardly ever, but for the refusals `unseen`, which cannot.
+    fn hold(&self, what: &str, unseen: &[u64]) {
+        println!("{what}: accepted {}, refused {:?}", self.0[0], &self.0[1..]);
+        for (number, &count) in self.0.iter().enumerate() {
+            let as_due = if unseen.contains(&(number as u64)) { count == 0 } else { count >= LEAST_COUNT };
+            assert!(as_due, "{what}: answer {number} came up {count} times");
+        }
+    }
+}
+
+/// Holds each kind's count of so many cases to the least that it has to be.
+fn hold_kinds(cases: usize, kinds: &[(&str, usize, usize)]) {
+    for &(kind, count, least) in kinds {
+        println!("{kind}: {count} of {cases}");
+        assert!(count >= least, "{kind}: {count} of {cases}");
+    }
+}
+
 /// How many cases gave each answer, and how many are of each kind below.
 #[derive(Default)]
 struct Tally {
-    answers: [usize; ANSWERS],
+    answers: AnswerCounts,
     most_ages: usize,
     ages_out_of_range: usize,
     gains: usize,
@@ -391,11 +442,11 @@ impl Tally {
     fn count(&mut self, case: &Case) {
         let (due, sets) = (&case.answer.due, case.sets_along_duct());
         let accepted = |kind: &dyn Fn(&Run) -> bool| usize::from(due.as_ref().is_ok_and(kind));
-        self.answers[due.as_ref().err().map_or(0, |&(number, _)| number as usize)] += 1;
+        self.answers.count(due);
         self.most_ages += accepted(&|run| run.rows.len() == MOST_AGES as usize);
         self.ages_out_of_range += usize::from(*due == Err((refused::RANGE, Ages.number() as u64)));
         self.gains += accepted(&Run::gains);
-        self.long_ducts += accepted(&Run::long_duct);
+        self.long_ducts += accepted(&|run| is_long(run.x));
         self.slips_by_tendon_length += accepted(&|run| !sets && run.has_duct() && run.slips_at_section());
         self.sets_along_duct += usize::from(sets);
         self.sets_that_die_out += accepted(&|run| sets && !run.slips_at_section());
@@ -403,14 +454,9 @@ impl Tally {
         self.sets_that_leave_too_little += usize::from(sets && *due == Err((refused::STRESS, 0)));
     }
 
-    /// The tests would show little if an answer or a kind came up hardly ever, but for the refusal `unseen`, which cannot.
-    fn hold(&self, unseen: Option<u64>) {
-        let (accepted, refused) = (self.answers[0], &self.answers[1..]);
-        println!("accepted {accepted}, refused {refused:?}");
-        for (number, count) in self.answers.iter().enumerate().filter(|&(number, _)| Some(number as u64) != unseen) {
-            assert!(*count >= LEAST_COUNT, "answer {number} came up {count} times");
-        }
-        for (kind, count, least) in [
+    fn hold(&self, unseen: &[u64]) {
+        self.answers.hold("losses", unseen);
+        hold_kinds(CASES, &[
             ("accepted with the most ages", self.most_ages, LEAST_COUNT),
             ("refused with 2 at the count of ages", self.ages_out_of_range, LEAST_COUNT),
             ("accepted with a gain", self.gains, LEAST_COUNT),
@@ -420,17 +466,14 @@ impl Tally {
             ("accepted with a set that dies out before the section", self.sets_that_die_out, LEAST_COUNT),
             ("accepted with a set that reaches the section", self.sets_at_section, LEAST_COUNT),
             ("set along a duct and refused with 7 before the ages", self.sets_that_leave_too_little, LEAST_COUNT),
-        ] {
-            println!("{kind}: {count} of {CASES}");
-            assert!(count >= least, "{kind}: {count} of {CASES}");
-        }
+        ]);
     }
 }
 
 /// Runs every case through an entry. One in four is made anew until it sets along a duct; others may as well.
 fn run_cases(
     seed: u64,
-    unseen: Option<u64>,
+    unseen: &[u64],
     input: impl Fn(&mut Random, &[u64]) -> (Vec<u8>, Reading),
     entry: impl Fn(&[u8], &mut Buffers) -> u64,
 ) {
@@ -453,12 +496,7 @@ fn run_cases(
 
 #[test]
 fn cards() {
-    let input = |r: &mut Random, f: &[u64]| {
-        let card = card_text(r, f);
-        let reading = read_card(&card);
-        (card, reading)
-    };
-    run_cases(0x5EED_0001_CA4D, Some(refused::DOUBLE), input, |card, now| {
+    run_cases(0x5EED_0001_CA4D, &[refused::DOUBLE, refused::PRETENSIONED], card_input, |card, now| {
         stratelyn::run_card_bytes(card, &mut now.report, &mut now.scratch, &mut now.reply)
     });
 }
@@ -475,7 +513,7 @@ fn lists() {
         }
         (bytes, read_list(&list))
     };
-    run_cases(0x5EED_0002_1157, None, input, |list, now| {
+    run_cases(0x5EED_0002_1157, &[refused::PRETENSIONED], input, |list, now| {
         stratelyn::run_list_bytes(list, &mut now.report, &mut now.scratch, &mut now.reply)
     });
 }
@@ -509,4 +547,178 @@ fn blank_slips() {
         println!("blank slips, {what}: {count}");
         assert!(count >= LEAST_COUNT, "blank slips, {what}: {count}");
     }
+}
+
+/// Sets Es so that the elongation of some segment has just come up to a whole number of ticks, or falls just short of it: a tick of stress
+/// hardly ever shows elsewhere.
+fn elongate_to_a_tick(r: &mut Random, f: &mut [u64]) {
+    let member = Member(f.to_vec());
+    if elongation_sheet(&member, SHEET_ROOM).is_err() || member.segments() == 0 {
+        return;
+    }
+    let stretches: Vec<Stretch> = Stretch::all(&member).collect();
+    let stretch = r.pick(&stretches);
+    let (most, least) = (stretch.elongation(*range(Es).start()), stretch.elongation(*range(Es).end()));
+    if least < most {
+        f[Es.at()] = stretch.largest_es(r.between(least + 1, most)) + r.below(2);
+    }
+}
+
+/// The fields of a member for a sheet. At times it is pretensioned, as a rule with a duct; at times it has the most friction, or so much
+/// steel in its section that its losses are refused with 5 or 6.
+fn member_of_sheet(r: &mut Random) -> Vec<u64> {
+    let mut f = member(r);
+    while f[Kind.at()] == PRETENSIONED {
+        f = member(r);
+    }
+    if r.one_in(4) {
+        (f[Kind.at()], f[EndOfCuring.at()]) = (PRETENSIONED, f[Transfer.at()]);
+    }
+    if r.one_in(8) {
+        [Wobble, Curvature].into_iter().for_each(|field| f[field.at()] = *range(field).end());
+    }
+    if r.one_in(16) {
+        f[Area.at()] = r.between(2, 8) * f[SteelArea.at()];
+    }
+    if r.one_in(2) {
+        elongate_to_a_tick(r, &mut f);
+    }
+    f
+}
+
+/// A card, and what the papers give for its sheet.
+struct SheetCase {
+    card: Vec<u8>,
+    reading: Reading,
+    due: Result<Sheet, Refusal>,
+}
+
+impl SheetCase {
+    fn new(r: &mut Random, paper: &Paper, edges: &[(Field, u64, u64)]) -> Self {
+        let mut f = member_of_sheet(r);
+        if r.one_in(2) {
+            disturb(r, paper, edges, &mut f);
+        }
+        let (card, reading) = card_input(r, &f);
+        let due = reading.clone().and_then(|member| elongation_sheet(&member, SHEET_ROOM));
+        SheetCase { card, reading, due }
+    }
+
+    /// What the program has to print: a line for each segment, then sum and measurable part.
+    fn text(&self) -> String {
+        match &self.due {
+            Err((number, place)) => printed_line(&[*number, *place]),
+            Ok(sheet) => {
+                let segments = (1..).zip(&sheet.elongations).map(|(number, &elongation)| printed_line(&[number, elongation]));
+                segments.chain([printed_line(&[sheet.sum(), sheet.measurable()])]).collect()
+            }
+        }
+    }
+}
+
+/// Whether other stresses at some segment's ends give it another elongation.
+fn shows(member: &Member, other: impl Fn(u128) -> u128) -> bool {
+    let es = member.0[Es.at()];
+    Stretch::all(member).any(|stretch| Stretch { at_ends: other(stretch.at_ends), ..stretch }.elongation(es) != stretch.elongation(es))
+}
+
+/// How many cards gave each answer, what the losses give for those with a sheet, and how many are of each kind below.
+#[derive(Default)]
+struct SheetTally {
+    answers: AnswerCounts,
+    losses: AnswerCounts,
+    without_segments: usize,
+    most_segments: usize,
+    bends: usize,
+    long_ducts: usize,
+    elongations: usize,
+    tick_less_of_stress: usize,
+    tick_more_of_stress: usize,
+    pretensioned_ducts: usize,
+    pretensioned_over_most_x: usize,
+}
+
+impl SheetTally {
+    fn count(&mut self, paper: &Paper, case: &SheetCase) {
+        self.answers.count(&case.due);
+        match (&case.reading, &case.due) {
+            (Ok(member), Ok(sheet)) => self.count_accepted(paper, member, sheet),
+            (Ok(member), Err((refused::PRETENSIONED, _))) => self.count_pretensioned(member),
+            _ => {}
+        }
+    }
+
+    fn count_accepted(&mut self, paper: &Paper, member: &Member, sheet: &Sheet) {
+        let segments = member.segments();
+        self.losses.count(&losses(paper, member).due);
+        self.without_segments += usize::from(segments == 0);
+        self.most_segments += usize::from(segments == MOST_SEGMENTS as usize);
+        self.bends += usize::from((0..segments).any(|i| member.segment_kind(i) == BEND));
+        self.long_ducts += usize::from(is_long(sheet.x));
+        self.elongations += usize::from(sheet.sum() > 0);
+        self.tick_less_of_stress += usize::from(shows(member, |at_ends| at_ends - 1));
+        self.tick_more_of_stress += usize::from(shows(member, |at_ends| at_ends + 1));
+    }
+
+    fn count_pretensioned(&mut self, member: &Member) {
+        let mut post_tensioned = member.clone();
+        post_tensioned.0[Kind.at()] = POST_TENSIONED;
+        let over_most_x = elongation_sheet(&post_tensioned, SHEET_ROOM) == Err((refused::DUCT, 2));
+        self.pretensioned_ducts += usize::from(member.segments() > 0);
+        self.pretensioned_over_most_x += usize::from(over_most_x);
+    }
+
+    fn hold(&self) {
+        let of_sheet = [refused::SHAPE, refused::CODE, refused::RANGE, refused::HOURS, refused::PRETENSIONED, refused::DUCT];
+        let of_losses_alone = [refused::SECTION, refused::CREEP, refused::STRESS, refused::OVERSTRESS, refused::ANCHOR_SET];
+        let of_neither = [refused::DOUBLE, refused::BUFFER];
+        self.answers.hold("sheets", &[&of_losses_alone[..], &of_neither].concat());
+        self.losses.hold("losses of cards with a sheet", &[&of_sheet[..], &of_neither].concat());
+        let kinds = [
+            ("a sheet without segments", self.without_segments),
+            ("a sheet with the most segments", self.most_segments),
+            ("a sheet with a bend", self.bends),
+            ("a sheet with a long duct", self.long_ducts),
+            ("a sheet with an elongation", self.elongations),
+            ("a sheet where a tick less of stress shows", self.tick_less_of_stress),
+            ("a sheet where a tick more of stress shows", self.tick_more_of_stress),
+            ("13 with a duct", self.pretensioned_ducts),
+            ("13 where a post-tensioned member is refused with 4", self.pretensioned_over_most_x),
+        ];
+        hold_kinds(SHEETS, &kinds.map(|(kind, count)| (kind, count, LEAST_COUNT)));
+    }
+}
+
+fn sheet_program() -> PathBuf {
+    let program = Path::new(env!("CARGO_MANIFEST_DIR")).join("../../target/bin/sheet");
+    assert!(program.is_file(), "there is no {}, which `rt check sheet` writes", program.display());
+    program
+}
+
+/// What a program prints for a card, if it ends well.
+fn printed(program: &Path, card: &[u8]) -> Option<String> {
+    let mut child = Command::new(program).stdin(Stdio::piped()).stdout(Stdio::piped()).spawn().expect("the program starts");
+    child.stdin.take().expect("its input").write_all(card).expect("it reads the card");
+    let output = child.wait_with_output().expect("it ends");
+    output.status.success().then(|| String::from_utf8(output.stdout).expect("it prints text"))
+}
+
+#[test]
+fn sheets() {
+    let (program, paper, edges) = (sheet_program(), Paper::new(), edges());
+    let mut r = Random(0x5EED_0004_5EE7);
+    let cases: Vec<SheetCase> = (0..SHEETS).map(|_| SheetCase::new(&mut r, &paper, &edges)).collect();
+    let mut tally = SheetTally::default();
+    cases.iter().for_each(|case| tally.count(&paper, case));
+    tally.hold();
+    let compare = |first: usize| {
+        for (number, case) in cases.iter().enumerate().skip(first).step_by(SHEET_THREADS) {
+            assert_eq!(printed(&program, &case.card), Some(case.text()), "sheet {number}");
+        }
+    };
+    thread::scope(|scope| {
+        for first in 0..SHEET_THREADS {
+            scope.spawn(move || compare(first));
+        }
+    });
 }

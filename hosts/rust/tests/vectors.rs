@@ -1,13 +1,15 @@
-//! Every stored vector through the C entries: cards with the report program's text, lists with their answers.
+//! Every stored vector through the C entries: cards with the report program's text, lists with their answers. The elongation sheets, for
+//! which C hosts have no entry, hold the papers' method as the tests write it to their answers.
 
 mod paper;
 
-use paper::{read_card, BEFORE_NUMBERS, COLUMNS, ROW_NUMBERS};
+use paper::{elongation_sheet, printed_line, read_card, BEFORE_NUMBERS, ROW_NUMBERS};
 use std::fs;
 use std::path::{Path, PathBuf};
 use stratelyn::{BYTES_PER_AGE, MOST_AGES, REPLY_BYTES};
 
 const BYTES_OF_NUMBER: usize = 8;
+const DIGITS_OF_BYTE: usize = 2; // in hex
 
 /// The bytes that report and scratch have before a run.
 const UNWRITTEN: u8 = 0xA5;
@@ -18,6 +20,7 @@ const REPLY_NUMBERS: usize = BEFORE_NUMBERS + 1;
 /// At least so many vectors are stored.
 const CARDS: usize = 240;
 const LISTS: usize = 300;
+const SHEETS: usize = 200;
 
 fn data() -> PathBuf {
     Path::new(env!("CARGO_MANIFEST_DIR")).join("../../crates/cases/data")
@@ -27,8 +30,20 @@ fn number(bytes: &[u8], at: usize) -> u64 {
     u64::from_le_bytes(bytes[BYTES_OF_NUMBER * at..][..BYTES_OF_NUMBER].try_into().expect("eight bytes"))
 }
 
-fn columns(numbers: &[u64]) -> String {
-    numbers.iter().map(|n| format!("{n:COLUMNS$}")).collect::<String>() + "\n"
+fn decimals(text: &str) -> Vec<u64> {
+    text.split(' ').map(|n| n.parse().expect("a number")).collect()
+}
+
+fn hex(digits: &str) -> u64 {
+    u64::from_str_radix(digits, 16).expect("hex digits")
+}
+
+fn hex_numbers(text: &str) -> Vec<u64> {
+    text.split_whitespace().map(hex).collect()
+}
+
+fn hex_bytes(digits: &str) -> Vec<u8> {
+    (0..digits.len()).step_by(DIGITS_OF_BYTE).map(|at| hex(&digits[at..][..DIGITS_OF_BYTE]) as u8).collect()
 }
 
 #[test]
@@ -47,14 +62,14 @@ fn cards() {
         let mut reply = [0; REPLY_BYTES];
         let refused = stratelyn::run_card_bytes(&card, &mut report, &mut scratch, &mut reply);
         let text = if refused != 0 {
-            columns(&[refused, number(&reply, 0)])
+            printed_line(&[refused, number(&reply, 0)])
         } else {
             let member = read_card(&card).expect("the card is accepted");
             let before: Vec<u64> = (1..=BEFORE_NUMBERS).map(|k| number(&reply, k)).collect();
-            let mut text = columns(&before);
+            let mut text = printed_line(&before);
             for age in 0..member.ages() {
                 let row: Vec<u64> = (0..ROW_NUMBERS).map(|k| number(&report, ROW_NUMBERS * age + k)).collect();
-                text += &columns(&[&[age as u64 + 1, member.hour(age)], &row[..]].concat());
+                text += &printed_line(&[&[age as u64 + 1, member.hour(age)], &row[..]].concat());
             }
             text
         };
@@ -68,16 +83,15 @@ fn lists() {
     assert!(text.lines().count() >= LISTS);
     for (case, line) in text.lines().enumerate() {
         let parts: Vec<&str> = line.split('|').collect();
-        let room: Vec<usize> = parts[0].split(' ').map(|n| n.parse().expect("a number")).collect();
-        let hex = |text: &str| u64::from_str_radix(text, 16).expect("hex digits");
-        let list: Vec<u8> = parts[1].split_whitespace().flat_map(|x| hex(x).to_le_bytes()).collect();
-        let due: Vec<u64> = parts[2].split(' ').map(|n| n.parse().expect("a number")).collect();
-        let buffer = |numbers: usize| vec![UNWRITTEN; BYTES_OF_NUMBER * numbers];
+        let room = decimals(parts[0]);
+        let list: Vec<u8> = hex_numbers(parts[1]).into_iter().flat_map(u64::to_le_bytes).collect();
+        let due = decimals(parts[2]);
+        let buffer = |numbers: u64| vec![UNWRITTEN; BYTES_OF_NUMBER * numbers as usize];
         let (mut report, mut scratch, mut reply) = (buffer(room[0]), buffer(room[1]), [0; REPLY_BYTES]);
         let refused = stratelyn::run_list_bytes(&list, &mut report, &mut scratch, &mut reply);
         assert_eq!((refused, number(&reply, 0)), (due[0], due[1]), "list {case}");
         if refused == 0 {
-            let due: Vec<u64> = parts[3].split_whitespace().map(hex).collect();
+            let due = hex_numbers(parts[3]);
             let in_report = due.len() - REPLY_NUMBERS;
             let in_reply = (1..=REPLY_NUMBERS).map(|k| number(&reply, k));
             let given: Vec<u64> = in_reply.chain((0..in_report).map(|k| number(&report, k))).collect();
@@ -86,6 +100,23 @@ fn lists() {
             assert!(past.iter().all(|&b| b == UNWRITTEN), "list {case}: past the rows");
         } else {
             assert!(report.iter().all(|&b| b == UNWRITTEN), "list {case}: report");
+        }
+    }
+}
+
+#[test]
+fn sheets() {
+    let text = fs::read_to_string(data().join("sheets.txt")).expect("the sheets");
+    assert!(text.lines().count() >= SHEETS);
+    for (case, line) in text.lines().enumerate() {
+        let parts: Vec<&str> = line.split('|').collect();
+        let room = decimals(parts[0])[0] as usize;
+        let given = read_card(&hex_bytes(parts[1])).and_then(|member| elongation_sheet(&member, room));
+        let (number, place) = given.as_ref().err().copied().unwrap_or((0, 0));
+        assert_eq!([number, place], decimals(parts[2])[..], "sheet {case}");
+        if let Ok(sheet) = given {
+            let numbers = [&sheet.elongations[..], &[sheet.sum(), sheet.measurable()]].concat();
+            assert_eq!(numbers, hex_numbers(parts[3]), "sheet {case}");
         }
     }
 }

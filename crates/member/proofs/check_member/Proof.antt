@@ -1,14 +1,14 @@
 -- The rows are those to the duct, and then those below it. Assumes nothing.
 use mathlib.Core.Path.{_≡_, sym, ap, _∙_}
 use Prim.Native.Nat.{ℕ}
-use mathlib.Core.List.{[]}
+use mathlib.Core.List.{[], _∷_}
 use Rattle.fields.specs.Outcomes.{OrRefusal, Gives, onward}
 use Rattle.fields.specs.Given.{numberGiven}
 use Rattle.fields.specs.Quantities.{Quantities, quantitiesOf}
 use Rattle.checks.specs.Rows.{checkedBy}
 use Rattle.checks.proofs.Cascade.{in-parts, given-is}
-use Rattle.member.specs.Member.{frictionOf, memberOf, codesToDuct, buffersToCreep, checkedOf}
-use Rattle.member.proofs.Laws.{by-rows, to-duct, head-alone}
+use Rattle.member.specs.Member.{frictionOf, memberOf, ductRow, codesToDuct, buffersToCreep, checkedOf}
+use Rattle.member.proofs.Laws.{by-rows, to-hours, head-alone}
 use borrow.Author.Needs.{needs}
 use Rattle.member.proofs.check_member.Statement.{statement}
 use Rattle.member.proofs.check_member.Tie as tie
@@ -38,7 +38,7 @@ check-below-duct-requires c κs =
     let start = c .before .before .before .before in
     let args = start .args in
     let q = quantities start in
-    let known = to-duct q [] (frictionOf q) (ducted (c .before)) .fields in
+    let known = to-hours q (ductRow q ∷ []) (frictionOf q) (ducted (c .before)) .fields in
     record {
       readable = start .pre;
       head = head-alone (args .segments) (args .ages) (args .fields .now) known;

@@ -92,7 +92,7 @@ path-length-requires : tie.Need-path-length-requires
 path-length-requires c κs =
     let start = read-of c .before .before .before in
     rw (c .from-element .ensures)
-    (path-fits (start .args .segments) (start .args .ages) (start .args .fields .now) (omega arith) (start .pre .readable)
+    (path-fits (start .args .segments) (start .args .fields .now) (omega arith) (start .pre .readable .segments-most)
     (start .pre .segments-fit))
 
 shrinkage-of-requires : tie.Need-shrinkage-of-requires

@@ -1,7 +1,7 @@
 -- A reply slice under 64 bytes is looked at first; else what the reader gives is answered. Assumes nothing.
 use borrow.Author.Needs.{needs}
 use Rattle.numbers.proofs.ListBytes.{bytes-accepted}
-use Rattle.entries.proofs.Readers.{readable-if}
+use Rattle.checks.proofs.Reading.{readable-if}
 use Rattle.stratelyn.proofs.Serving.{unserved, served}
 use Rattle.stratelyn.proofs.stratelyn_run_list.Statement.{statement}
 use Rattle.stratelyn.proofs.stratelyn_run_list.Tie as tie

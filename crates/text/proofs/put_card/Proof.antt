@@ -2,7 +2,7 @@
 -- nothing. Assumes nothing.
 use mathlib.Core.Path.{sym, _∙_}
 use Rattle.card.proofs.Laws.{card-accepted}
-use Rattle.entries.proofs.Readers.{readable-if}
+use Rattle.checks.proofs.Reading.{readable-if}
 use Rattle.text.proofs.Texts.{refused-card, read-card}
 use borrow.Author.Needs.{needs}
 use Rattle.text.proofs.put_card.Statement.{statement}

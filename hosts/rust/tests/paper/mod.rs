@@ -3,6 +3,7 @@
 
 #![allow(dead_code)]
 
+use std::ops::RangeInclusive;
 use Field::*;
 
 // ---- the table of fields
@@ -131,6 +132,12 @@ const MOST_KAPPA: u128 = 1 << 30;
 const MOST_CREEP: u128 = 1 << 56;
 const LEAST_STRESS: u128 = 1000 * TICKS;
 
+/// A field's range.
+pub fn range(field: Field) -> RangeInclusive<u64> {
+    let (_, least, most) = RANGES.into_iter().find(|&(of, ..)| of == field).expect("the field has a range");
+    least..=most
+}
+
 /// The fields of the head that are kept in ticks.
 const IN_TICKS: [Field; 8] = [Slip, Length, VolumeToSurface, Area, Inertia, Eccentricity, SteelArea, OwnWeightMoment];
 
@@ -189,7 +196,8 @@ pub mod refused {
     pub const BUFFER: u64 = 10;
     pub const OVERSTRESS: u64 = 11;
     pub const ANCHOR_SET: u64 = 12;
-    pub const LAST: u64 = ANCHOR_SET;
+    pub const PRETENSIONED: u64 = 13;
+    pub const LAST: u64 = PRETENSIONED;
 }
 
 /// A card or a list as it is read: all its fields, by their numbers less 1.
@@ -209,8 +217,34 @@ impl Member {
         self.0[Ages.at()] as usize
     }
 
+    fn code(&self, field: Field) -> u64 {
+        self.0[field.at()]
+    }
+
+    fn pretensioned(&self) -> bool {
+        self.code(Kind) == PRETENSIONED
+    }
+
+    fn moist(&self) -> bool {
+        self.code(Cure) == MOIST
+    }
+
+    /// The jacking stress in ticks.
+    fn jacked(&self) -> u128 {
+        self.field(JackingStress) * TICKS
+    }
+
+    /// "at most 0.80 F" of the jacking stress, and in W1 of the stress after a gain.
+    fn permits(&self, stress: u128) -> bool {
+        10 * stress <= 8 * self.field(UltimateStrength) * TICKS
+    }
+
     fn segment(&self, segment: usize, field: OfSegment) -> u128 {
         u128::from(self.0[number_in_segment(segment, field) - 1])
+    }
+
+    pub fn segment_kind(&self, segment: usize) -> u64 {
+        self.segment(segment, OfSegment::Kind) as u64
     }
 
     fn age(&self, age: usize, field: OfAge) -> u128 {
@@ -254,11 +288,6 @@ impl Run {
         self.rows.iter().any(|row| row[ROW_GAIN] > 0)
     }
 
-    /// Whether the duct is long: its X is above T.
-    pub fn long_duct(&self) -> bool {
-        self.x > T
-    }
-
     /// Whether there is a duct: a path with friction or a length.
     pub fn has_duct(&self) -> bool {
         self.x > 0 || self.path_length > 0
@@ -283,6 +312,36 @@ impl From<Refusal> for Answer {
     fn from(refusal: Refusal) -> Self {
         Answer { due: Err(refusal), anchor_set: None }
     }
+}
+
+/// "the measurable part, which is 80 of 100", of document 02's W7.
+const MEASURABLE_HUNDREDTHS: u64 = 80;
+
+/// An elongation sheet: the elongation of each segment, in ticks of inch; and the X of its path.
+#[derive(Debug, Clone, PartialEq)]
+pub struct Sheet {
+    pub x: u128,
+    pub elongations: Vec<u64>,
+}
+
+impl Sheet {
+    pub fn sum(&self) -> u64 {
+        self.elongations.iter().sum()
+    }
+
+    pub fn measurable(&self) -> u64 {
+        MEASURABLE_HUNDREDTHS * self.sum() / 100
+    }
+}
+
+/// Whether a duct is long: its X is above T.
+pub fn is_long(x: u128) -> bool {
+    x > T
+}
+
+/// A line that a program prints: numbers in columns.
+pub fn printed_line(numbers: &[u64]) -> String {
+    numbers.iter().map(|n| format!("{n:COLUMNS$}")).collect::<String>() + "\n"
 }
 
 // ---- the anchor set
@@ -437,8 +496,7 @@ fn card_field(columns: &[u8], number: usize) -> Option<u64> {
 
 /// Counts are ranged while the shape is read.
 fn check_count(field: Field, count: u64) -> Result<usize, Refusal> {
-    let (_, least, most) = RANGES.into_iter().find(|&(of, ..)| of == field).expect("a count has a range");
-    check((least..=most).contains(&count), refused::RANGE, field.number())?;
+    check(range(field).contains(&count), refused::RANGE, field.number())?;
     Ok(count as usize)
 }
 
@@ -497,9 +555,95 @@ pub fn read_list(list: &[u64]) -> Reading {
     Ok(Member(fields))
 }
 
+// ---- checks
+
 fn check(holds: bool, number: u64, place: usize) -> Result<(), Refusal> {
     if holds { Ok(()) } else { Err((number, place as u64)) }
 }
+
+/// Document 01's rows of codes, ranges and hours, as the losses and the sheet both have them.
+fn check_fields(member: &Member) -> Result<(), Refusal> {
+    check_codes(member)?;
+    check_ranges(member)?;
+    check_hours(member)
+}
+
+fn check_codes(member: &Member) -> Result<(), Refusal> {
+    for field in CODES {
+        check((FIRST_CODE..=LAST_CODE).contains(&member.code(field)), refused::CODE, field.number())?;
+    }
+    for i in 0..member.segments() {
+        let listed = [STRAIGHT, PARABOLA, BEND].contains(&member.segment_kind(i));
+        check(listed, refused::CODE, number_in_segment(i, OfSegment::Kind))?;
+    }
+    Ok(())
+}
+
+fn check_ranges(member: &Member) -> Result<(), Refusal> {
+    check_ranges_of_head(member)?;
+    check_ranges_of_segments(member)?;
+    check_moments(member)
+}
+
+fn check_ranges_of_head(member: &Member) -> Result<(), Refusal> {
+    for (field, least, most) in RANGES {
+        let within = match field {
+            JackingStress => member.permits(member.jacked()),
+            DeflectorLoss => member.pretensioned() || member.field(DeflectorLoss) == 0,
+            _ => true,
+        };
+        let number = member.field(field);
+        check(u128::from(least) <= number && number <= u128::from(most) && within, refused::RANGE, field.number())?;
+    }
+    Ok(())
+}
+
+fn check_ranges_of_segments(member: &Member) -> Result<(), Refusal> {
+    for i in 0..member.segments() {
+        let (length, rise) = (member.segment(i, OfSegment::Length), member.segment(i, OfSegment::Rise));
+        let (long, high) = match member.segment_kind(i) {
+            STRAIGHT => ((1..=2_097_152).contains(&length), rise == 0),
+            PARABOLA => ((1024..=2_097_152).contains(&length), rise <= 65_536),
+            _ => (length == 0, rise <= 4096),
+        };
+        check(long, refused::RANGE, number_in_segment(i, OfSegment::Length))?;
+        check(high, refused::RANGE, number_in_segment(i, OfSegment::Rise))?;
+    }
+    Ok(())
+}
+
+fn check_moments(member: &Member) -> Result<(), Refusal> {
+    let mut moments = member.field(OwnWeightMoment);
+    for i in 0..member.ages() {
+        moments += member.age(i, OfAge::Moment);
+        check(moments <= u128::from(MOST_MOMENTS), refused::RANGE, number_in_age(member.segments(), i, OfAge::Moment))?;
+    }
+    Ok(())
+}
+
+fn check_hours(member: &Member) -> Result<(), Refusal> {
+    let (curing, transfer, moist) = (member.field(EndOfCuring), member.field(Transfer), member.moist());
+    let in_order = curing <= transfer && (!member.pretensioned() || curing == transfer);
+    let in_time = !moist || curing <= u128::from(MOST_CURING_IF_MOIST);
+    check(in_order && in_time, refused::HOURS, EndOfCuring.number())?;
+    let earliest = u128::from(if moist { LEAST_TRANSFER_IF_MOIST } else { LEAST_TRANSFER });
+    check(earliest <= transfer && transfer <= u128::from(MOST_TRANSFER), refused::HOURS, Transfer.number())?;
+    let mut last = transfer;
+    for i in 0..member.ages() {
+        let hour = member.age(i, OfAge::Hour);
+        check(last < hour && hour <= u128::from(LIFE), refused::HOURS, number_in_age(member.segments(), i, OfAge::Hour))?;
+        last = hour;
+    }
+    Ok(())
+}
+
+/// The X of the path, if it is not too large.
+fn check_x(member: &Member) -> Result<u128, Refusal> {
+    let x = member.x(member.segments());
+    check(x <= MOST_X, refused::DUCT, 2).map(|()| x)
+}
+
+// ---- friction
 
 /// Document 02's W3 takes the powers of X up to this one.
 const POWERS_OF_X: u128 = 15;
@@ -508,6 +652,78 @@ const POWERS_OF_X: u128 = 15;
 fn friction_factor(x: u128) -> u128 {
     (1..=POWERS_OF_X).rev().fold(T, |h, k| T - h * x / (k * T))
 }
+
+impl Member {
+    fn x_of_segment(&self, segment: usize) -> u128 {
+        let (length, rise) = (self.segment(segment, OfSegment::Length), self.segment(segment, OfSegment::Rise));
+        let wobble = self.field(Wobble) * length * T / (TICKS * MILLION);
+        let curvature = match self.segment_kind(segment) {
+            PARABOLA => self.field(Curvature) * 2 * rise * T / (length * MILLION),
+            BEND => self.field(Curvature) * rise * T / (TICKS * MILLION),
+            _ => 0,
+        };
+        wobble + curvature
+    }
+
+    /// "the stress after j segments takes X of the first j".
+    fn x(&self, first: usize) -> u128 {
+        (0..first).map(|i| self.x_of_segment(i)).sum()
+    }
+
+    /// "the stress left, rounded down", of document 02's W3, behind segments of this X.
+    fn stress_left(&self, x: u128) -> u128 {
+        self.jacked() * friction_factor(x) / T
+    }
+
+    /// In ticks of foot.
+    fn path_length(&self) -> u128 {
+        (0..self.segments()).map(|i| self.segment(i, OfSegment::Length)).sum()
+    }
+}
+
+// ---- the elongation sheet
+
+/// The sheet of a member with so many numbers of room, of document 02's W7.
+pub fn elongation_sheet(member: &Member, room: usize) -> Result<Sheet, Refusal> {
+    check_fields(member)?;
+    check(!member.pretensioned(), refused::PRETENSIONED, 1)?;
+    let x = check_x(member)?;
+    check(room >= member.segments(), refused::BUFFER, 1)?;
+    let elongations = Stretch::all(member).map(|stretch| stretch.elongation(member.0[Es.at()])).collect();
+    Ok(Sheet { x, elongations })
+}
+
+/// What a segment's elongation comes from: the stresses at its two ends before slip, added, and its length in ticks of inch.
+#[derive(Debug, Clone, Copy)]
+pub struct Stretch {
+    pub at_ends: u128,
+    pub length: u128,
+}
+
+impl Stretch {
+    fn new(member: &Member, segment: usize) -> Self {
+        let at_end = |first: usize| member.stress_left(member.x(first));
+        let length = INCHES_OF_FOOT * member.segment(segment, OfSegment::Length);
+        Stretch { at_ends: at_end(segment) + at_end(segment + 1), length }
+    }
+
+    /// Those of a member's segments, if the duct's check lets its X pass.
+    pub fn all(member: &Member) -> impl Iterator<Item = Self> + '_ {
+        (0..member.segments()).map(|i| Stretch::new(member, i))
+    }
+
+    /// "the mean of the stresses at its ends before slip, times its length over Es, in ticks of inch, rounded down only once".
+    pub fn elongation(&self, es: u64) -> u64 {
+        (self.at_ends * self.length / (2 * u128::from(es) * TICKS)) as u64
+    }
+
+    /// The largest Es by which the elongation comes up to this.
+    pub fn largest_es(&self, elongation: u64) -> u64 {
+        (self.at_ends * self.length / (2 * u128::from(elongation) * TICKS)) as u64
+    }
+}
+
+// ---- the losses
 
 impl Paper {
     pub fn new() -> Self {
@@ -528,79 +744,17 @@ impl Paper {
 
     /// The checks and the steps. What rules at the slip stays in `anchor_set`, also if the run is refused there or later.
     fn steps(&self, member: &Member, report: usize, scratch: usize, anchor_set: &mut Option<AnchorSet>) -> Result<Run, Refusal> {
-        let f = |field: Field| member.field(field);
-        let (segments, ages) = (member.segments(), member.ages());
-        let code = |field: Field| member.0[field.at()];
-        let (kind, steel, concrete) = (code(Kind), code(Steel), code(Concrete));
-        let moist = code(Cure) == MOIST;
-        let segment_kind = |i: usize| member.segment(i, OfSegment::Kind) as u64;
+        check_fields(member)?;
+        check(!member.pretensioned() || member.segments() == 0, refused::DUCT, 1)?;
+        let x = check_x(member)?;
 
-        for field in CODES {
-            check((FIRST_CODE..=LAST_CODE).contains(&code(field)), refused::CODE, field.number())?;
-        }
-        for i in 0..segments {
-            let listed = [STRAIGHT, PARABOLA, BEND].contains(&segment_kind(i));
-            check(listed, refused::CODE, number_in_segment(i, OfSegment::Kind))?;
-        }
-
-        // "at most 0.80 F" of the jacking stress, and in W1 of the stress after a gain.
-        let permitted = |stress: u128| 10 * stress <= 8 * f(UltimateStrength) * TICKS;
-        for (field, least, most) in RANGES {
-            let within = match field {
-                JackingStress => permitted(f(JackingStress) * TICKS),
-                DeflectorLoss => kind == PRETENSIONED || f(DeflectorLoss) == 0,
-                _ => true,
-            };
-            let number = f(field);
-            check(u128::from(least) <= number && number <= u128::from(most) && within, refused::RANGE, field.number())?;
-        }
-        for i in 0..segments {
-            let (length, rise) = (member.segment(i, OfSegment::Length), member.segment(i, OfSegment::Rise));
-            let (long, high) = match segment_kind(i) {
-                STRAIGHT => ((1..=2_097_152).contains(&length), rise == 0),
-                PARABOLA => ((1024..=2_097_152).contains(&length), rise <= 65_536),
-                _ => (length == 0, rise <= 4096),
-            };
-            check(long, refused::RANGE, number_in_segment(i, OfSegment::Length))?;
-            check(high, refused::RANGE, number_in_segment(i, OfSegment::Rise))?;
-        }
-        let mut moments = f(OwnWeightMoment);
-        for i in 0..ages {
-            moments += member.age(i, OfAge::Moment);
-            check(moments <= u128::from(MOST_MOMENTS), refused::RANGE, number_in_age(segments, i, OfAge::Moment))?;
-        }
-
-        let (curing, transfer) = (f(EndOfCuring), f(Transfer));
-        let in_order = curing <= transfer && (kind == POST_TENSIONED || curing == transfer);
-        let in_time = !moist || curing <= u128::from(MOST_CURING_IF_MOIST);
-        check(in_order && in_time, refused::HOURS, EndOfCuring.number())?;
-        let earliest = u128::from(if moist { LEAST_TRANSFER_IF_MOIST } else { LEAST_TRANSFER });
-        check(earliest <= transfer && transfer <= u128::from(MOST_TRANSFER), refused::HOURS, Transfer.number())?;
-        let mut last = transfer;
-        let life = u128::from(LIFE);
-        for i in 0..ages {
-            let hour = member.age(i, OfAge::Hour);
-            check(last < hour && hour <= life, refused::HOURS, number_in_age(segments, i, OfAge::Hour))?;
-            last = hour;
-        }
-
-        check(kind == POST_TENSIONED || segments == 0, refused::DUCT, 1)?;
-        let (mut x, mut path_length) = (0, 0);
-        for i in 0..segments {
-            let (length, rise) = (member.segment(i, OfSegment::Length), member.segment(i, OfSegment::Rise));
-            path_length += length;
-            x += f(Wobble) * length * T / (TICKS * MILLION);
-            x += match segment_kind(i) {
-                PARABOLA => f(Curvature) * 2 * rise * T / (length * MILLION),
-                BEND => f(Curvature) * rise * T / (TICKS * MILLION),
-                _ => 0,
-            };
-        }
-        check(x <= MOST_X, refused::DUCT, 2)?;
-
+        let ages = member.ages();
         check(report >= ROW_NUMBERS * ages, refused::BUFFER, 1)?;
         check(scratch >= SCRATCH_NUMBERS_OF_AGE * ages, refused::BUFFER, 2)?;
 
+        let f = |field: Field| member.field(field);
+        let (moist, concrete) = (member.moist(), member.code(Concrete));
+        let (curing, transfer, life) = (f(EndOfCuring), f(Transfer), u128::from(LIFE));
         let (es, eci, ec) = (f(Es), f(Eci), f(Ec));
         let (area, inertia, eccentricity, steel_area) = (f(Area), f(Inertia), f(Eccentricity), f(SteelArea));
         let kappa = (steel_area << 32) / area + 4096 * steel_area * eccentricity * eccentricity / inertia;
@@ -630,9 +784,9 @@ impl Paper {
         };
         let lift = |stress: u128, gain: u128, place: usize| {
             let lifted = stress + gain;
-            check(permitted(lifted), refused::OVERSTRESS, place).map(|()| lifted)
+            check(member.permits(lifted), refused::OVERSTRESS, place).map(|()| lifted)
         };
-        let (d, y) = match steel {
+        let (d, y) = match member.code(Steel) {
             STRESS_RELIEVED => (2560, 85 * f(UltimateStrength) * TICKS / 100),
             _ => (11_520, 90 * f(UltimateStrength) * TICKS / 100),
         };
@@ -640,13 +794,13 @@ impl Paper {
             let q = (stress * T / y).saturating_sub(55 * T / 100).max(5 * T / 100);
             stress * logarithms / d * q / T
         };
-        let tensioning = if kind == PRETENSIONED { 0 } else { transfer };
+        let tensioning = if member.pretensioned() { 0 } else { transfer };
         let log = |hour: u128| self.logarithm((hour - tensioning).max(1));
         let g = |moments: u128| moments * eccentricity / inertia;
         let c = |stress: u128, moments: u128| (stress * kappa >> 32).saturating_sub(g(moments));
 
-        let jacked = f(JackingStress) * TICKS;
-        let friction = jacked - jacked * friction_factor(x) / T;
+        let (jacked, path_length) = (member.jacked(), member.path_length());
+        let friction = jacked - member.stress_left(x);
         let mut stress = lose(jacked, friction, 0)?;
         *anchor_set = AnchorSet::along(path_length, friction, es, f(Slip));
         let slip = match anchor_set {
@@ -659,7 +813,7 @@ impl Paper {
         stress = lose(stress, slip, 0)?;
         let deflector = f(DeflectorLoss) * TICKS;
         stress = lose(stress, deflector, 0)?;
-        let early = if kind == PRETENSIONED { relax(stress, log(transfer)) } else { 0 };
+        let early = if member.pretensioned() { relax(stress, log(transfer)) } else { 0 };
         stress = lose(stress, early, 0)?;
         let shortening = es * c(stress, f(OwnWeightMoment)) / (eci + (es * kappa >> 32));
         stress = lose(stress, shortening, 0)?;

@@ -1,21 +1,21 @@
 -- X is a sum along the segments. Each turn adds at most 2·10^9. Assumes nothing.
 use mathlib.Core.Path.{refl}
-use Prim.Native.Nat.{ℕ, _+_, _-_, _*_}
+use Prim.Native.Nat.{ℕ, _-_}
 use native.Mathlib.Omega.{arith}
-use Rattle.member.specs.Constants.{wobblePart, curvaturePart, pathFriction}
-use Rattle.member.specs.Facts.{mostPart}
+use Rattle.member.specs.Constants.{segmentFriction, pathFriction}
+use Rattle.member.specs.Facts.{mostSegmentFriction}
 use Rattle.member.proofs.Walk.{Sums, Walked, starts, here, walks, arrives}
 use Rattle.member.proofs.path.path_friction.Statement.{statement}
 use Rattle.member.proofs.path.path_friction.Tie as tie
 
 sums : (wobble curvature : ℕ)
-    → Sums (pathFriction wobble curvature) (λ segment. wobblePart wobble segment + curvaturePart curvature segment)
+    → Sums (pathFriction wobble curvature) (segmentFriction wobble curvature)
 unfolding pathFriction
 sums wobble curvature = record { none = refl; one-more = λ segment segments. refl }
 
 abbrev Inv-loop : tie.InvT-loop
 Inv-loop part segments wobble curvature friction₀ segment₀ friction segment =
-    Walked (pathFriction wobble curvature) (2 * mostPart) part segments friction segment
+    Walked (pathFriction wobble curvature) mostSegmentFriction part segments friction segment
 
 abbrev μ-loop : tie.MeasureT-loop
 μ-loop part segments wobble curvature friction₀ segment₀ friction segment = segments - segment
@@ -50,27 +50,18 @@ mul-rise c = omega arith
 shared-slice-read-rise : tie.Need-shared-slice-read-rise Inv-loop μ-loop
 shared-slice-read-rise c = omega arith
 
-wobble-part-requires : tie.Need-wobble-part-requires Inv-loop μ-loop
-wobble-part-requires c κs =
+segment-friction-requires : tie.Need-segment-friction-requires Inv-loop μ-loop
+segment-friction-requires c κs =
     let turned = c .before .before .before in
+    let known = turned .before .before .before .pre in
     record {
-      factor-most = turned .before .before .before .pre .wobble-most;
+      wobble-most = known .wobble-most;
+      curvature-most = known .curvature-most;
       segment-fits = here (sums _ _) (turned .before .loop .inv) (turned .loop-test .taken);
     }
 
 add-friction : tie.Need-add-friction Inv-loop μ-loop
 add-friction c = omega arith
-
-curvature-part-requires : tie.Need-curvature-part-requires Inv-loop μ-loop
-curvature-part-requires c κs =
-    let turned = c .before .before .before .before in
-    record {
-      factor-most = turned .before .before .before .pre .curvature-most;
-      segment-fits = here (sums _ _) (turned .before .loop .inv) (turned .loop-test .taken);
-    }
-
-add-friction-2 : tie.Need-add-friction-2 Inv-loop μ-loop
-add-friction-2 c = omega arith
 
 add-segment : tie.Need-add-segment Inv-loop μ-loop
 add-segment c = omega arith
@@ -80,11 +71,10 @@ loop-less c = omega arith
 
 loop-again : tie.Need-loop-again Inv-loop μ-loop
 loop-again c =
-    let turned = c .before .before .before .before .before in
-    let wobbling = c .before .wobble-part .ensures in
-    let curving = c .curvature-part .ensures in
-    walks (sums _ _) (turned .before .loop .inv) (turned .loop-test .taken) (omega (arith, wobbling .is, curving .is))
-    (omega (arith, wobbling .is, wobbling .most, curving .is, curving .most))
+    let turned = c .before .before .before .before in
+    let rubbing = c .segment-friction .ensures in
+    walks (sums _ _) (turned .before .loop .inv) (turned .loop-test .taken) (omega (arith, rubbing .is))
+    (omega (arith, rubbing .is, rubbing .most))
 
 returns : tie.Need-returns Inv-loop μ-loop
 returns c = arrives (sums _ _) (c .before .loop .inv) (c .loop-test .left)
@@ -105,10 +95,8 @@ path-friction-spec =
     add-rise
     mul-rise
     shared-slice-read-rise
-    wobble-part-requires
+    segment-friction-requires
     add-friction
-    curvature-part-requires
-    add-friction-2
     add-segment
     loop-less
     loop-again

@@ -1,0 +1,5 @@
+pub mod Along
+mod Passing
+mod Walk
+pub mod Closeness
+mod Answering

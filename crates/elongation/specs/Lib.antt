@@ -1,0 +1,4 @@
+pub mod Sheet
+pub mod Close
+pub mod Promise
+pub mod Conditions
