@@ -1,7 +1,8 @@
-// A list's answer on standard output.
+// The answer of a list or of a sheet on standard output.
 ghost use Prim.Native.Nat.{_≤_};
 ghost use Rattle.cases.specs.Sizes.{mostRoom};
-use crate::lists::LINE_FEED;
+use crate::lines::LINE_FEED;
+use elongation::SheetAnswer;
 use entries::Answer;
 use fields::limits::MOST_AGES;
 use fields::limits::MOST_FIELDS;
@@ -11,8 +12,9 @@ use fields::refusal::Refusal;
 use libc::STDOUT_FILENO;
 use stages::before::BeforeAges;
 use text::MOST_LINE_BYTES;
+use text::MOST_PER_LINE;
 
-// Numbers that a list's report and scratch are lent at most.
+// Numbers that a report, a scratch or a sheet is lent at most.
 const MOST_ROOM: usize = 4096;
 
 fn print_numbers(numbers: &[u64]) {
@@ -97,4 +99,34 @@ pub(crate) fn print_list(list: &[f64], report_room: usize, scratch_room: usize) 
             print_rows_of(list, &report);
         }
     }
+}
+
+// What a lent number is before the call.
+const UNWRITTEN: u64 = 9_999_999_999_999;
+
+// The numbers of a lent buffer, as many to a line as a line has.
+fn print_lent(sheet: &[u64; MOST_ROOM], lent: usize) {
+    if MOST_ROOM < lent {
+        return;
+    }
+    let mut at = 0usize;
+    while at < lent {
+        print_numbers(&sheet[at..lent]);
+        at += MOST_PER_LINE;
+    }
+}
+
+// A card's sheet, with room for so many numbers: number and place, 0 and 0 if it is accepted; then the sum and its measurable part; then,
+// also of a refused one, every number of the lent buffer.
+pub(crate) fn print_sheet(card: &[u8], room: usize) {
+    let mut sheet = [UNWRITTEN; MOST_ROOM];
+    let lent = room_of(room);
+    match elongation::elongation_sheet(card, &mut sheet[..lent]) {
+        SheetAnswer::Refused(refusal) => print_refusal(refusal),
+        SheetAnswer::Accepted(total) => {
+            print_numbers(&[0, 0]);
+            print_numbers(&[total.sum, total.measurable]);
+        }
+    }
+    print_lent(&sheet, lent);
 }

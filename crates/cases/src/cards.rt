@@ -3,6 +3,7 @@
 use libc::STDOUT_FILENO;
 use text::MOST_READ_BYTES;
 use text::MOST_TEXT_BYTES;
+use text::Program;
 
 const CARDS: usize = 439;
 
@@ -47,7 +48,7 @@ fn run_card(number: usize) {
     let read = io::read_full(file, &mut card);
     libc::close(file);
     let mut text = [0u8; MOST_TEXT_BYTES];
-    let bytes = text::text_of_input(&card, read, &mut text);
+    let bytes = text::text_of_input(Program::Report, &card, read, &mut text);
     io::write_all(STDOUT_FILENO, &text[..bytes]);
 }
 

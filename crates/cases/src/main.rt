@@ -1,10 +1,11 @@
-// Executes the vectors: each card, and each list of doubles, in the files of data/. What it prints is held to what the
-// vectors' own answers say.
+// Executes the vectors: each card, each list of doubles, and each elongation sheet, in the files of data/. What it prints is held to
+// what the vectors' own answers say.
 mod answers;
 mod cards;
-mod lists;
+mod lines;
 
 fn main() {
     cards::run_cards();
-    lists::run_lists();
+    lines::run_lists();
+    lines::run_sheets();
 }

@@ -1,11 +1,12 @@
-// The cards: each one's file, and below it what the report program prints for it.
+// The cards: each one's file, and below it what the report program prints for it; and of some what the sheet program prints.
 use crate::print::print_title;
 use libc::STDOUT_FILENO;
 use text::MOST_READ_BYTES;
 use text::MOST_TEXT_BYTES;
+use text::Program;
 
-fn run_card(path: &[u8]) {
-    print_title(path);
+// What a program prints for a card.
+fn print_card(program: Program, path: &[u8]) {
     let file = os::open_read(path);
     if file < 0 {
         os::fail(path);
@@ -15,8 +16,19 @@ fn run_card(path: &[u8]) {
     let read = io::read_full(file, &mut card);
     libc::close(file);
     let mut text = [0u8; MOST_TEXT_BYTES];
-    let bytes = text::text_of_input(&card, read, &mut text);
+    let bytes = text::text_of_input(program, &card, read, &mut text);
     io::write_all(STDOUT_FILENO, &text[..bytes]);
+}
+
+fn run_card(path: &[u8]) {
+    print_title(path);
+    print_card(Program::Report, path);
+}
+
+fn run_sheet(path: &[u8]) {
+    io::write_all(STDOUT_FILENO, b"sheet of ");
+    print_title(path);
+    print_card(Program::Sheet, path);
 }
 
 // Document 001, design example 1.
@@ -58,10 +70,17 @@ fn run_simple_span() {
     run_card(b"simple_span_c.card");
 }
 
+// Document 002, examples 1 and 3: how far each tendon comes out.
+fn run_sheets() {
+    run_sheet(b"box_girder_g.card");
+    run_sheet(b"simple_span_c.card");
+}
+
 pub(crate) fn run_cards() {
     run_double_tee();
     run_slab();
     run_box_girder();
     run_seated_box_girder();
     run_simple_span();
+    run_sheets();
 }

@@ -21,13 +21,13 @@ use Rattle.checks.specs.Rows.{firstFailing, segmentCodes, rangesOfSegments, ran
 use Rattle.member.specs.Member.{checkedOf}
 use Rattle.stages.specs.Run.{memberResult}
 use Rattle.text.specs.Columns.{firstColumns}
-use Rattle.text.specs.Text.{agesText, reportText}
+use Rattle.text.specs.Text.{agesText, textOf}
 use Rattle.readings.specs.Readings.{Marked, withAnchorSet, linesOf, fieldsOf, hourly, numberAndPlace, resultOfCard, withAges}
 use Rattle.readings.specs.Readings.{double0153, halfApart}
 
 -- what opens every definition that a reading is computed by, but the drop at the jack
 unfoldable computed : Unit {0}
-unfolding firstColumns agesText reportText linesOf fieldsOf hourly cardOutcome digitsOf spacesIn round toBits listOutcome countsIn amountsBy
+unfolding firstColumns agesText textOf linesOf fieldsOf hourly cardOutcome digitsOf spacesIn round toBits listOutcome countsIn amountsBy
     wholeOf ticksOf magnitude numbersIn segmentsFrom agesFrom checkedOf firstFailing segmentCodes rangesOfSegments rangesOfMoments
     hoursOfAges memberResult logarithm scf ssf mcf ucr ush creepShare shrinkageShare pathFriction pathLength factor
 computed = tt

@@ -51,7 +51,7 @@ same-run one other e =
         a .exact .report-is ∙ sym (b .exact .report-is),
       );
       hosts = λ a b. same-served a b;
-      printed = refl;
+      printed = λ program. refl;
     })
 
 pub slip-as-before : SlipAsBefore

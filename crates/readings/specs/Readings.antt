@@ -26,7 +26,8 @@ use Rattle.stages.specs.declared.before.BeforeAges.{BeforeAges}
 use Rattle.stages.specs.declared.intervals.Row.{Row}
 use Rattle.stages.specs.Run.{begunOf, endAt, transferEnd, lossesBetween, together, gainBetween, Report, resultRead}
 use Rattle.text.specs.Columns.{allInColumns, lineOf}
-use Rattle.text.specs.Text.{reportText}
+use Rattle.text.specs.declared.Program.{Program}
+use Rattle.text.specs.Text.{textOf}
 
 -- ---- the text of a card: "Lines of 14-column fields, decimal digits right-justified behind spaces, each line ended by a line feed."
 
@@ -224,7 +225,7 @@ pub record Marked : Type 0 where
   pub sample-fields : cardOutcome sample ≡ accepted 0 3 (fieldsOf sampleLines)
   pub sample-ages : agesRead (quantitiesRead (cardOutcome sample)) ≡ age 744 0 ∷ age 8784 0 ∷ age 438000 0 ∷ []
   pub sample-result : resultOfCard sample ≡ Gives (record { before = sampleBefore; rows = row1 ∷ row2 ∷ row3 ∷ []; last = 91437232 })
-  pub sample-printed : reportText sample
+  pub sample-printed : textOf Program.Report sample
       ≡ linesOf (lineBefore sampleBefore ∷ ageLine 1 744 row1 ∷ ageLine 2 8784 row2 ∷ ageLine 3 438000 row3 ∷ [])
   -- "A host may instead lend one list of doubles": it is read as the card is
   pub sample-as-list : listOutcome (listOf 3 ageLines) ≡ cardOutcome sample
@@ -264,7 +265,7 @@ pub record Marked : Type 0 where
   -- document 02, W1: "11 when the stress after a gain passes 0.80 F". To the tick it passes, "after the stress" stands the gain; a tick
   -- above it is refused at age 1
   pub gain-reaches : 100 * reached .stress ≡ 80 * 150005 * 1024
-  pub gain-reaches-passes : reportText reaching
+  pub gain-reaches-passes : textOf Program.Report reaching
       ≡ linesOf
       ((0 ∷ 0 ∷ 0 ∷ 0 ∷ 1320974 ∷ 60119026 ∷ []) ∷ ageLine 1 744 reached ∷ (2 ∷ 8784 ∷ 0 ∷ 4649779 ∷ 5220032 ∷ 113014285 ∷ 0 ∷ [])
       ∷ (3 ∷ 438000 ∷ 0 ∷ 1479475 ∷ 6060330 ∷ 105474480 ∷ 0 ∷ []) ∷ [])

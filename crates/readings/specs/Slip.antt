@@ -11,12 +11,13 @@ use Rattle.entries.specs.declared.Answer.{Answer}
 use Rattle.entries.specs.Answers.{answerNumber, answerValues}
 use Rattle.entries.specs.Promise.{Promise}
 use Rattle.text.specs.Columns.{inColumns}
+use Rattle.text.specs.declared.Program.{Program}
 use Rattle.text.specs.Text.{readText}
 use Rattle.stratelyn.specs.Hosts.{Served}
 
 -- what two cards give, or one card by two cores, is the same as it is read and over the whole run: whoever keeps the one promise and
 -- whoever keeps the other, lent the same buffers, answer the same number and values and leave the same report; a C host gets the same
--- number, and the same bytes in every buffer; and the same text is printed
+-- number, and the same bytes in every buffer; and each program prints the same text
 pub record SameRun (one other : Outcome) : Type 0 where
   pub read : one ≡ other
   pub native : {answer answer′ : Answer} {report report′ reportWas scratch scratch′ scratchWas : List ℕ}
@@ -26,7 +27,7 @@ pub record SameRun (one other : Outcome) : Type 0 where
       → Served one returned report reportWas scratch scratchWas reply replyWas
       → Served other returned′ report′ reportWas scratch′ scratchWas reply′ replyWas
       → (returned ≡ returned′) × (report ≡ report′) × (scratch ≡ scratch′) × (reply ≡ reply′)
-  pub printed : readText (quantitiesRead one) ≡ readText (quantitiesRead other)
+  pub printed : (program : Program) → readText program (quantitiesRead one) ≡ readText program (quantitiesRead other)
 
 -- "older wedges", for which a blank slip read 256 ticks
 abbrev pub olderSlip : ℕ

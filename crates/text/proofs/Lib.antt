@@ -1,2 +1,3 @@
 mod Laying
 mod Texts
+mod SheetTexts

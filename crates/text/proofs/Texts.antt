@@ -32,9 +32,10 @@ use Rattle.card.proofs.Behind.{behind}
 use Rattle.entries.specs.declared.Reply.{Reply}
 use Rattle.entries.specs.declared.Answer.the-variants.{Accepted, Refused}
 use Rattle.entries.specs.Answers.{numbersBefore, numbersOfRows, numbersWritten, Answered}
+use Rattle.text.specs.declared.Program.{Program}
 use Rattle.text.specs.Columns.{lineOf, Holds}
 use Rattle.text.specs.Conditions.{mostLineBytes, AgesFit, RunFits, linesOfAges}
-use Rattle.text.specs.Text.{refusalText, beforeText, agesText, resultText, readText, reportText}
+use Rattle.text.specs.Text.{refusalText, beforeText, agesText, resultText, runText, readText, textOf}
 use Rattle.text.proofs.Laying.{line-length}
 
 -- a text behind another, by way of `&mut buffer[at..]`
@@ -172,7 +173,7 @@ result q = resultOf q mostReport mostScratch
 
 module _ (q : Quantities) {bytes : ℕ} {buffer old : List ℕ} where
   pub refusal-printed : {refusal : Refusal} → Answered (result q) (Refused refusal) → Holds (refusalText refusal) bytes buffer old
-      → Holds (readText (Gives q)) bytes buffer old
+      → Holds (runText q) bytes buffer old
   refusal-printed {refusal} answered holds = rw (by (result q) answered) at holds
     where
       by : (given : OrRefusal Report) → Answered given (Refused refusal) → refusalText refusal ≡ resultText (q .ages) given
@@ -185,7 +186,7 @@ module _ (q : Quantities) {bytes : ℕ} {buffer old : List ℕ} where
   pub run-printed : (reply : Reply) (report was : List ℕ) → ((given : Report) → result q ≡ Gives given → length (given .rows) ≡ length (q .ages))
       → Answered (result q) (Accepted reply) → report ≡ over (numbersWritten (result q)) was
       → Holds (beforeText (reply .before) ++ linesOfAges 0 (q .ages) report) bytes buffer old
-      → Holds (readText (Gives q)) bytes buffer old
+      → Holds (runText q) bytes buffer old
   run-printed reply report was counted answered written holds = rw (by (result q) refl answered written) at holds
     where
       by : (run : OrRefusal Report) → result q ≡ run → Answered run (Accepted reply) → report ≡ over (numbersWritten run) was
@@ -198,28 +199,28 @@ module _ (q : Quantities) {bytes : ℕ} {buffer old : List ℕ} where
 
 -- ---- a card
 
-pub refused-card : (card : List ℕ) {refusal : Refusal} → Not refusal ≡ cardOutcome card .reading
-    → refusalText refusal ≡ reportText card
-unfolding reportText
-refused-card card e = rw (← e)
+pub refused-card : (program : Program) (card : List ℕ) {refusal : Refusal} → Not refusal ≡ cardOutcome card .reading
+    → refusalText refusal ≡ textOf program card
+unfolding textOf
+refused-card program card e = rw (← e)
 
-pub read-card : (card fields : List ℕ) {segments ages : ℕ} → Fields segments ages ≡ cardOutcome card .reading
+pub read-card : (program : Program) (card fields : List ℕ) {segments ages : ℕ} → Fields segments ages ≡ cardOutcome card .reading
     → fields ≡ over (cardOutcome card .numbers) (replicate mostFields 0)
-    → readText (Gives (quantitiesOf segments ages fields)) ≡ reportText card
-unfolding reportText
-read-card card fields {segments} {ages} e is =
-    ap readText (same-read (cardOutcome card) (card-accepted card) (Fields segments ages) fields e is)
+    → readText program (Gives (quantitiesOf segments ages fields)) ≡ textOf program card
+unfolding textOf
+read-card program card fields {segments} {ages} e is =
+    ap (readText program) (same-read (cardOutcome card) (card-accepted card) (Fields segments ages) fields e is)
 
 -- the first bytes of an input decide its text, where they are more than the longest good card has
-pub input-text : (buffer bytes input : List ℕ) → mostBytes < length buffer → bytes ≡ take (length buffer) input
-    → reportText bytes ≡ reportText input
-unfolding reportText
-input-text buffer bytes input more is = by (ltb (length buffer) (length input)) refl
+pub input-text : (program : Program) (buffer bytes input : List ℕ) → mostBytes < length buffer → bytes ≡ take (length buffer) input
+    → textOf program bytes ≡ textOf program input
+unfolding textOf
+input-text program buffer bytes input more is = by (ltb (length buffer) (length input)) refl
   where
     first : List ℕ
     first = take (length buffer) input
 
-    by : (longer : Bool) → ltb (length buffer) (length input) ≡ longer → reportText bytes ≡ reportText input
+    by : (longer : Bool) → ltb (length buffer) (length input) ≡ longer → textOf program bytes ≡ textOf program input
     by true e =
         let long = ltb-true (length buffer) (length input) e in
         let whole : first ++ drop (length buffer) input ≡ input = take-append-drop (length buffer) input in

@@ -1,4 +1,4 @@
--- The report program's text rests on it. Numbers in columns: document 01, "Sample beam", "all in ticks of psi, 14 columns".
+-- The programs' text rests on it. Numbers in columns: document 01, "Sample beam", "all in ticks of psi, 14 columns".
 use Prim.Native.Nat.{ℕ, zero, suc, _+_, _-_, _/_, _%_}
 use mathlib.Core.Path.{_≡_}
 use mathlib.Core.Bool.{_&&_, cond}

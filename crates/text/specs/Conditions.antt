@@ -32,6 +32,10 @@ pub record AgesFit (segments ages : ℕ) (part : List ℕ) : Type 0 where
   pub ages-most : ages ≤ mostAges
   pub room : mostLineBytes * ages ≤ length part
 
+-- the bytes of a line of two numbers, as a segment's is
+abbrev pub segmentLineBytes : ℕ
+segmentLineBytes = lineLength 2
+
 -- of the fields that are run, and of a part that takes what is printed of the run
 pub record RunFits (segments ages : ℕ) (fields part : List ℕ) : Type 0 where
   pub readable : Readable segments ages fields

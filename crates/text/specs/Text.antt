@@ -1,4 +1,4 @@
--- The report program's text rests on it. What it prints: document 01, "Sample beam", and document 02, W1.
+-- The programs' text rests on it. What they print: document 01, "Sample beam", and document 02, W1 and W7.
 use Prim.Native.Nat.{ℕ, suc}
 use mathlib.Core.Path.{_≡_}
 use mathlib.Core.List.{List, [], _∷_, _++_}
@@ -7,12 +7,16 @@ use Rattle.fields.specs.declared.refusal.Refusal.{Refusal}
 use Rattle.fields.specs.Outcomes.{OrRefusal, Gives, Refuses}
 use Rattle.fields.specs.Quantities.{Quantities, Age, quantitiesRead}
 use Rattle.fields.specs.Refusals.{number, place}
+use Rattle.fields.specs.Limits.{mostSegments}
 use Rattle.fields.specs.Sizes.{mostReport, mostScratch}
 use Rattle.card.specs.Card.{cardOutcome}
 use Rattle.stages.specs.declared.before.BeforeAges.{BeforeAges}
 use Rattle.stages.specs.declared.intervals.Row.{Row}
 use Rattle.stages.specs.Run.{Report, resultOf}
 use Rattle.entries.specs.Answers.{numbersBefore, numbersOfRow}
+use Rattle.elongation.specs.declared.Elongation.{Elongation}
+use Rattle.elongation.specs.Sheet.{Sheet, sheetResult}
+use Rattle.text.specs.declared.Program.{Program}
 use Rattle.text.specs.Columns.{lineOf, Holds}
 
 -- "A refused card prints number and place, one line of two such columns."
@@ -36,20 +40,42 @@ abbrev pub resultText : List Age → OrRefusal Report → List ℕ
 resultText ages (Gives report) = beforeText (report .before) ++ agesText 0 ages (report .rows)
 resultText ages (Refuses refusal) = refusalText refusal
 
--- the text of what was read; the report program lends room for every member's rows
-abbrev pub readText : OrRefusal Quantities → List ℕ
-readText (Gives q) = resultText (q .ages) (resultOf q mostReport mostScratch)
-readText (Refuses refusal) = refusalText refusal
+-- the report program lends room for every member's rows
+abbrev pub runText : Quantities → List ℕ
+runText q = resultText (q .ages) (resultOf q mostReport mostScratch)
 
--- "The report program reads a card from standard input.": what it prints for a card
-unfoldable pub reportText : List ℕ → List ℕ
-reportText card = readText (quantitiesRead (cardOutcome card))
+-- document 02, W7: a line for each segment that follows `passed` others, with its elongation; "then the sum, and the measurable part"
+unfoldable pub elongationsText : ℕ → List ℕ → List ℕ
+elongationsText passed [] = []
+elongationsText passed (elongation ∷ elongations) =
+    lineOf (suc passed ∷ elongation ∷ []) ++ elongationsText (suc passed) elongations
+
+abbrev pub totalText : Elongation → List ℕ
+totalText total = lineOf (total .sum ∷ total .measurable ∷ [])
+
+abbrev pub sheetText : OrRefusal Sheet → List ℕ
+sheetText (Gives sheet) = elongationsText 0 (sheet .elongations) ++ totalText (sheet .total)
+sheetText (Refuses refusal) = refusalText refusal
+
+-- the sheet program lends room for every path
+abbrev pub sheetTextOf : Quantities → List ℕ
+sheetTextOf q = sheetText (sheetResult q mostSegments)
+
+-- the text of what was read
+abbrev pub readText : Program → OrRefusal Quantities → List ℕ
+readText program (Refuses refusal) = refusalText refusal
+readText Program.Report (Gives q) = runText q
+readText Program.Sheet (Gives q) = sheetTextOf q
+
+-- "The report program reads a card from standard input.", and so does the sheet's: what a program prints for a card
+unfoldable pub textOf : Program → List ℕ → List ℕ
+textOf program card = readText program (quantitiesRead (cardOutcome card))
 
 -- a buffer into which an input was read, so many bytes of it: all of them, or as many as the buffer holds
 abbrev pub Read : List ℕ → ℕ → List ℕ → Type 0
 Read buffer bytes input = take bytes buffer ≡ take (length buffer) input
 
 -- what is printed is the text of the bytes that were read, and so of the whole input, of which they may be only the first
-pub record PrintsAll (buffer : List ℕ) (read bytes : ℕ) (text was : List ℕ) : Type 0 where
-  pub exact : Holds (reportText (take read buffer)) bytes text was
-  pub whole : (input : List ℕ) → Read buffer read input → reportText (take read buffer) ≡ reportText input
+pub record PrintsAll (program : Program) (buffer : List ℕ) (read bytes : ℕ) (text was : List ℕ) : Type 0 where
+  pub exact : Holds (textOf program (take read buffer)) bytes text was
+  pub whole : (input : List ℕ) → Read buffer read input → textOf program (take read buffer) ≡ textOf program input

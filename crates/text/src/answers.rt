@@ -1,9 +1,8 @@
 // What is printed of a run: a line of number and place, or a line of the losses before the ages and a line for each age.
-ghost use Rattle.fields.specs.Outcomes.{Gives};
 ghost use Rattle.fields.specs.Quantities.{quantitiesOf};
 ghost use Rattle.text.specs.Columns.{Holds};
 ghost use Rattle.text.specs.Conditions.{RoomForLine, AgesFit, RunFits, linesOfAges};
-ghost use Rattle.text.specs.Text.{refusalText, beforeText, readText};
+ghost use Rattle.text.specs.Text.{refusalText, beforeText, runText};
 use crate::columns;
 use entries::Answer;
 use entries::run;
@@ -90,7 +89,7 @@ pub(crate) fn put_run(
     ages: u64,
 ) -> usize
     requires { ⌜ RunFits segments ages (now fields) (now part) ⌝ }
-    ensures { λ r. ⌜ Holds (readText (Gives (quantitiesOf segments ages (now (fields .entry)))))
+    ensures { λ r. ⌜ Holds (runText (quantitiesOf segments ages (now (fields .entry))))
         r (now (part .exit)) (now (part .entry)) ⌝ }
 {
     let mut report = [0u64; MOST_REPORT];

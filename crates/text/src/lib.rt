@@ -1,11 +1,14 @@
-// What the report program prints, laid out in a lent buffer: numbers in columns of 14, right-justified behind spaces.
+// What the programs `report` and `sheet` print, laid out in a lent buffer: numbers in columns of 14, right-justified behind spaces.
 ghost use lib.ListN.{take};
+ghost use Rattle.fields.specs.Outcomes.{Gives};
+ghost use Rattle.fields.specs.Quantities.{quantitiesOf};
 ghost use Rattle.text.specs.Columns.{lineOf, mostPerLine, Holds};
-ghost use Rattle.text.specs.Conditions.{RoomForText, InputFits, Counted};
-ghost use Rattle.text.specs.Text.{refusalText, beforeText, reportText, PrintsAll};
+ghost use Rattle.text.specs.Conditions.{RoomForText, RunFits, InputFits, Counted};
+ghost use Rattle.text.specs.Text.{refusalText, beforeText, readText, textOf, PrintsAll};
 
 mod answers;
 mod columns;
+mod sheets;
 
 use fields::limits::MOST_AGES;
 use fields::limits::MOST_FIELDS;
@@ -16,12 +19,18 @@ use line::COLUMNS;
 use stages::before::BeforeAges;
 
 // The most numbers of a line, an age's: its number, its hour and its row. And the bytes of such a line.
-const MOST_PER_LINE: usize = 2 + PER_ROW;
+pub const MOST_PER_LINE: usize = 2 + PER_ROW;
 
 pub const MOST_LINE_BYTES: usize = COLUMNS * MOST_PER_LINE + 1;
 
-// The bytes of the longest text: a line before the ages, and one for each.
+// The bytes of the longest text, a report's: a line before the ages, and one for each.
 pub const MOST_TEXT_BYTES: usize = MOST_LINE_BYTES * (1 + MOST_AGES);
+
+// Which program prints.
+pub enum Program {
+    Report,
+    Sheet,
+}
 
 // How much of an input decides its text: one byte more than the longest good card has.
 pub const MOST_READ_BYTES: usize = card::MOST_BYTES + 1;
@@ -53,38 +62,57 @@ pub fn line_before_ages(before: BeforeAges, line: &mut [u8; MOST_LINE_BYTES]) ->
     answers::put_before(line, before)
 }
 
+// What is printed of fields that a reader has filled.
+fn put_fields(
+    program: Program,
+    part: &mut [u8],
+    fields: &[u64; MOST_FIELDS],
+    segments: u64,
+    ages: u64,
+) -> usize
+    requires { ⌜ RunFits segments ages (now fields) (now part) ⌝ }
+    ensures { λ r. ⌜ Holds (readText program (Gives (quantitiesOf segments ages (now (fields .entry)))))
+        r (now (part .exit)) (now (part .entry)) ⌝ }
+{
+    match program {
+        Program::Report => answers::put_run(part, fields, segments, ages),
+        Program::Sheet => sheets::put_sheet(part, fields, segments, ages),
+    }
+}
+
 // What is printed for a card.
-fn put_card(part: &mut [u8], card: &[u8]) -> usize
+fn put_card(program: Program, part: &mut [u8], card: &[u8]) -> usize
     requires { ⌜ RoomForText (now part) ⌝ }
-    ensures { λ r. ⌜ Holds (reportText (now (card .entry))) r (now (part .exit)) (now (part .entry)) ⌝ }
+    ensures { λ r. ⌜ Holds (textOf program (now (card .entry))) r (now (part .exit)) (now (part .entry)) ⌝ }
 {
     let mut fields = [0u64; MOST_FIELDS];
     match card::read_card(card, &mut fields) {
         Reading::Not(refusal) => answers::put_refusal(part, refusal),
-        Reading::Fields(segments, ages) => answers::put_run(part, &fields, segments, ages),
+        Reading::Fields(segments, ages) => put_fields(program, part, &fields, segments, ages),
     }
 }
 
 // What is printed for an input of which a buffer holds the first bytes.
-fn put_input(part: &mut [u8], buffer: &[u8], read: usize) -> usize
+fn put_input(program: Program, part: &mut [u8], buffer: &[u8], read: usize) -> usize
     requires { ⌜ InputFits (now buffer) (now part) ⌝ }
-    ensures { λ r. ⌜ PrintsAll (now (buffer .entry)) read r (now (part .exit)) (now (part .entry)) ⌝ }
+    ensures { λ r. ⌜ PrintsAll program (now (buffer .entry)) read r (now (part .exit)) (now (part .entry)) ⌝ }
 {
     if buffer.len() < read {
-        return put_card(part, buffer);
+        return put_card(program, part, buffer);
     }
-    put_card(part, &buffer[..read])
+    put_card(program, part, &buffer[..read])
 }
 
-// What is printed for an input that was read into a buffer until that was full or the input ended, so many bytes of it; how many
+// What a program prints for an input that was read into a buffer until that was full or the input ended, so many bytes of it; how many
 // bytes the text has.
 pub fn text_of_input(
+    program: Program,
     buffer: &[u8; MOST_READ_BYTES],
     read: usize,
     text: &mut [u8; MOST_TEXT_BYTES],
 ) -> usize
-    ensures { λ r. ⌜ PrintsAll (now (buffer .entry)) read r (now (text .exit)) (now (text .entry)) ⌝ }
+    ensures { λ r. ⌜ PrintsAll program (now (buffer .entry)) read r (now (text .exit)) (now (text .entry)) ⌝ }
     ensures { λ r. ⌜ Counted r (now (text .exit)) ⌝ }
 {
-    put_input(text, buffer, read)
+    put_input(program, text, buffer, read)
 }

@@ -20,8 +20,8 @@ put-refusal-requires c κs = search needs
 enum-known-segments : tie.Need-enum-known-segments
 enum-known-segments c = search needs
 
-put-run-requires : tie.Need-put-run-requires
-put-run-requires c κs =
+put-fields-requires : tie.Need-put-fields-requires
+put-fields-requires c κs =
     let counts = c .before .before .before in
     let read = counts .before .before in
     let given = read .read-card .ensures in
@@ -37,7 +37,8 @@ returns : tie.Need-returns
 returns c =
     let refused = c .before .before .before .before .before in
     let given = refused .before .before .read-card .ensures in
-    rw (refused-card _ (sym (refused .refusal .given .1) ∙ given .0)) at (c .before .before .put-refusal .ensures)
+    let start = refused .before .before .before .before .before .before in
+    rw (refused-card (start .args .program) _ (sym (refused .refusal .given .1) ∙ given .0)) at (c .before .before .put-refusal .ensures)
 
 same-length-2 : tie.Need-same-length-2
 same-length-2 c = search needs
@@ -46,7 +47,8 @@ returns-2 : tie.Need-returns-2
 returns-2 c =
     let counts = c .before .before .before .before .before .before in
     let given = counts .before .before .read-card .ensures in
-    rw (read-card _ _ (sym (counts .segments .given .1) ∙ given .0) (given .1)) at (c .before .before .put-run .ensures)
+    let start = counts .before .before .before .before .before .before in
+    rw (read-card (start .args .program) _ _ (sym (counts .segments .given .1) ∙ given .0) (given .1)) at (c .before .before .put-fields .ensures)
 
 pub put-card-spec : {M : Type 1} → statement M
 put-card-spec =
@@ -56,7 +58,7 @@ put-card-spec =
     enum-known-refusal
     put-refusal-requires
     enum-known-segments
-    put-run-requires
+    put-fields-requires
     same-length
     returns
     same-length-2

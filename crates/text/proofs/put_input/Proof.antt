@@ -19,7 +19,7 @@ returns c =
     let all = take-all (start .args .read) (start .args .buffer .now) (search needs) in
     record {
       exact = rw all (c .before .before .put-card .ensures);
-      whole = λ input. input-text (start .args .buffer .now) _ input (start .pre .more);
+      whole = λ input. input-text (start .args .program) (start .args .buffer .now) _ input (start .pre .more);
     }
 
 slice-aggregate-put-card : tie.Need-slice-aggregate-put-card
@@ -38,7 +38,7 @@ returns-2 c =
     let start = c .before .before .before .before .before .before .before .before in
     record {
       exact = c .before .before .put-card2 .ensures;
-      whole = λ input. input-text (start .args .buffer .now) _ input (start .pre .more);
+      whole = λ input. input-text (start .args .program) (start .args .buffer .now) _ input (start .pre .more);
     }
 
 pub put-input-spec : {M : Type 1} → statement M

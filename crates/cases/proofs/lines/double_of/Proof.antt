@@ -1,9 +1,9 @@
--- `cases::lists::double_of` is safe: without its sign, a pattern that is at most infinity's is no NaN's. Assumes nothing.
+-- `cases::lines::double_of` is safe: without its sign, a pattern that is at most infinity's is no NaN's. Assumes nothing.
 use borrow.Author.Needs.{needs}
 use borrow.Author.Tests.{le-ltb}
 use lib.Ieee.Bits.{nanBits-above}
-use Rattle.cases.proofs.lists.double_of.Statement.{statement}
-use Rattle.cases.proofs.lists.double_of.Tie as tie
+use Rattle.cases.proofs.lines.double_of.Statement.{statement}
+use Rattle.cases.proofs.lines.double_of.Tie as tie
 
 returns : tie.Need-returns
 returns c = search needs

@@ -1,17 +1,17 @@
--- `cases::lists::past_all` is safe and ends. The invariant: the byte that is next is at most the part's end. The measure is
+-- `cases::lines::past_all` is safe and ends. The invariant: the byte that is next is at most the part's end. The measure is
 -- the bytes that are left. Assumes nothing.
 use Prim.Native.Nat.{_≤_, _-_}
 use mathlib.Core.Path.{_≡_}
 use borrow.Author.Needs.{needs}
 use lib.ListN.{length}
-use Rattle.cases.proofs.lists.past_all.Statement.{statement}
-use Rattle.cases.proofs.lists.past_all.Tie as tie
+use Rattle.cases.proofs.lines.past_all.Statement.{statement}
+use Rattle.cases.proofs.lines.past_all.Tie as tie
 
 abbrev Inv-loop : tie.InvT-loop
-Inv-loop part list₀ read₀ at₀ at-end list read at = (at ≤ at-end) × (at-end ≡ length part)
+Inv-loop part list₀ card₀ read₀ at₀ at-end list card read at = (at ≤ at-end) × (at-end ≡ length part)
 
 abbrev μ-loop : tie.MeasureT-loop
-μ-loop part list₀ read₀ at₀ at-end list read at = at-end - at
+μ-loop part list₀ card₀ read₀ at₀ at-end list card read at = at-end - at
 
 loop-holds : tie.Need-loop-holds Inv-loop μ-loop
 loop-holds c = search needs

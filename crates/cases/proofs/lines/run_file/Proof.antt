@@ -1,17 +1,17 @@
--- `cases::lists::run_file` is safe and ends. The invariant: the reads are at most their limit, and the chunk keeps its length.
+-- `cases::lines::run_file` is safe and ends. The invariant: the reads are at most their limit, and the chunk keeps its length.
 -- The measure is the reads that are left. Assumes nothing.
 use Prim.Native.Nat.{_≤_, _-_}
 use mathlib.Core.Path.{_≡_}
 use borrow.Author.Needs.{needs}
 use lib.ListN.{length}
-use Rattle.cases.proofs.lists.run_file.Statement.{statement}
-use Rattle.cases.proofs.lists.run_file.Tie as tie
+use Rattle.cases.proofs.lines.run_file.Statement.{statement}
+use Rattle.cases.proofs.lines.run_file.Tie as tie
 
 abbrev Inv-loop : tie.InvT-loop
-Inv-loop file list₀ line₀ chunk₀ counter₀ list line chunk counter = (counter ≤ 65536) × (4096 ≡ length chunk)
+Inv-loop file list₀ card₀ line₀ chunk₀ counter₀ list card line chunk counter = (counter ≤ 65536) × (4096 ≡ length chunk)
 
 abbrev μ-loop : tie.MeasureT-loop
-μ-loop file list₀ line₀ chunk₀ counter₀ list line chunk counter = 65536 - counter
+μ-loop file list₀ card₀ line₀ chunk₀ counter₀ list card line chunk counter = 65536 - counter
 
 begun-requires : tie.Need-begun-requires Inv-loop μ-loop
 begun-requires c κs = search needs

@@ -1,10 +1,10 @@
--- `cases::lists::Line::run` is safe: the doubles that are kept are at most the list's, so a part of so many is lent. Assumes
+-- `cases::lines::Line::run` is safe: the doubles that are kept are at most the list's, so a part of so many is lent. Assumes
 -- nothing.
 use mathlib.Core.Path.{sym}
 use borrow.Author.Needs.{needs}
 use lib.Seq.{length-take-le}
-use Rattle.cases.proofs.lists.Line.run.Statement.{statement}
-use Rattle.cases.proofs.lists.Line.run.Tie as tie
+use Rattle.cases.proofs.lines.Line.run.Statement.{statement}
+use Rattle.cases.proofs.lines.Line.run.Tie as tie
 
 slice-aggregate-print-list : tie.Need-slice-aggregate-print-list
 slice-aggregate-print-list c = sym (length-take-le _ _ (c .before .if1 .taken))
