@@ -49,7 +49,7 @@ extern "C" {
 /* Each function uses less than this much stack; hosts/c/stack.c measures it. */
 #define STRATELYN_MOST_STACK_BYTES 16384
 
-/* What a run returns. */
+/* What a run returns. 13 is a refusal of the elongation sheet, for which there is no entry here. */
 enum stratelyn_refusal {
   STRATELYN_ACCEPTED = 0,
   STRATELYN_CODE = 1,        /* a code that is not listed; place: field */

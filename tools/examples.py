@@ -20,7 +20,7 @@ CARDS = (
 ).split()
 
 # The cards whose elongation sheets stand behind all answers.
-SHEETS = ("box_girder_g", "simple_span_c")
+SHEETS = ("box_girder_g", "simple_span_c", "simple_span_one_mean")
 
 # The line of an answer before the ages; the ages' lines follow, numbered from 1.
 BEFORE = 0
@@ -258,11 +258,11 @@ def seatings(answers, quantities):
     return [(quantity, getattr(seating(answers, card), name)) for quantity, card, name in quantities]
 
 
-def elongations(sheet, segments):
+def elongations(sheet, segments=(), by=""):
     """The core's number of each quantity of an elongation sheet, in inches: the elongations of these segments, and the total."""
     *lines, total = sheet
     of_segments = [("elongation of " + name, elongation) for name, (_, elongation) in zip(segments, lines)]
-    of_all = [("total elongation", total.sum), ("measurable elongation", total.measurable_part)]
+    of_all = [("total elongation" + by, total.sum), ("measurable elongation" + by, total.measurable_part)]
     return [(quantity, ticks / paper.TICKS) for quantity, ticks in of_segments + of_all]
 
 
@@ -304,4 +304,5 @@ def compare_all(checks, answers, sheets):
     compare_core(checks, "Document 002, example 1: elongation", elongations(sheets["box_girder_g"], SEGMENTS_OF_BOX_GIRDER))
     compare_core(checks, "Document 002, example 2", seatings(answers, SEATED_BOX_GIRDER), box_girder_at_b())
     compare_core(checks, "Document 002, example 3: anchor set", seatings(answers, SIMPLE_SPAN))
-    compare_core(checks, "Document 002, example 3: elongation", elongations(sheets["simple_span_c"], ()))
+    by_one_mean = elongations(sheets["simple_span_one_mean"], by=", by one mean")
+    compare_core(checks, "Document 002, example 3: elongation", by_one_mean + elongations(sheets["simple_span_c"]))

@@ -1,5 +1,6 @@
 // The answer of a list or of a sheet on standard output.
 ghost use Prim.Native.Nat.{_≤_};
+ghost use lib.ListN.{length};
 ghost use Rattle.cases.specs.Sizes.{mostRoom};
 use crate::lines::LINE_FEED;
 use elongation::SheetAnswer;
@@ -105,28 +106,38 @@ pub(crate) fn print_list(list: &[f64], report_room: usize, scratch_room: usize) 
 const UNWRITTEN: u64 = 9_999_999_999_999;
 
 // The numbers of a lent buffer, as many to a line as a line has.
-fn print_lent(sheet: &[u64; MOST_ROOM], lent: usize) {
-    if MOST_ROOM < lent {
-        return;
-    }
+fn print_lent(lent: &[u64])
+    requires { ⌜ length (now lent) ≤ mostRoom ⌝ }
+{
     let mut at = 0usize;
-    while at < lent {
-        print_numbers(&sheet[at..lent]);
+    while at < lent.len() {
+        print_numbers(&lent[at..]);
         at += MOST_PER_LINE;
     }
 }
 
-// A card's sheet, with room for so many numbers: number and place, 0 and 0 if it is accepted; then the sum and its measurable part; then,
-// also of a refused one, every number of the lent buffer.
-pub(crate) fn print_sheet(card: &[u8], room: usize) {
-    let mut sheet = [UNWRITTEN; MOST_ROOM];
-    let lent = room_of(room);
-    match elongation::elongation_sheet(card, &mut sheet[..lent]) {
+// Number and place, 0 and 0 if a sheet is accepted; then its sum and its measurable part.
+fn print_total(answer: SheetAnswer) {
+    match answer {
         SheetAnswer::Refused(refusal) => print_refusal(refusal),
         SheetAnswer::Accepted(total) => {
             print_numbers(&[0, 0]);
             print_numbers(&[total.sum, total.measurable]);
         }
     }
-    print_lent(&sheet, lent);
+}
+
+// A card's sheet: its answer, and then, also of a refused one, every number of the lent buffer.
+fn print_sheet_in(card: &[u8], lent: &mut [u64])
+    requires { ⌜ length (now lent) ≤ mostRoom ⌝ }
+{
+    print_total(elongation::elongation_sheet(card, lent));
+    print_lent(lent);
+}
+
+// The same, with room for so many numbers.
+pub(crate) fn print_sheet(card: &[u8], room: usize) {
+    let mut sheet = [UNWRITTEN; MOST_ROOM];
+    let lent = room_of(room);
+    print_sheet_in(card, &mut sheet[..lent]);
 }

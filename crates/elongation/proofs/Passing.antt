@@ -11,7 +11,6 @@ use borrow.Author.Tests.{leb-true, eq-eqb, ne-eqb, le-leb, lt-leb}
 use Rattle.fields.specs.declared.refusal.Refusal.the-variants.{Pretensioned, Buffers}
 use Rattle.fields.specs.Outcomes.{OrRefusal, Gives, Refuses, onward}
 use Rattle.fields.specs.Quantities.{Quantities, isPretensioned}
-use Rattle.fields.specs.Refusals.{place}
 use Rattle.fields.specs.Limits.{mostFriction}
 use Rattle.checks.specs.Rows.{checkedBy}
 use Rattle.checks.proofs.Rows.{none, more}
@@ -26,14 +25,14 @@ use Rattle.elongation.specs.Sheet.{pretensionedRow, roomRow, belowHours,
 module _ (q : Quantities) (room : ℕ) where
   pub kind-refuses : q .kind ≡ 1 → Refuses Pretensioned ≡ checkedBy {A = Unit {0}} (belowHours q room) tt
   kind-refuses e =
-      row-fails (λ place. Pretensioned) (pretensionedRow q .checks) _ _
-      (alone-fails (place Pretensioned) {holds = not (isPretensioned q)} (rw (eq-eqb (q .kind) 1 e))) (λ none. omega arith)
+      row-fails (λ p. Pretensioned) (pretensionedRow q .checks) _ _
+      (alone-fails 1 {holds = not (isPretensioned q)} (rw (eq-eqb (q .kind) 1 e))) (λ none. omega arith)
 
   pub below-kind : (q .kind ≡ 1 → ⊥)
       → checkedBy {A = Unit {0}} (ductRow q ∷ roomRow q room ∷ []) tt ≡ checkedBy {A = Unit {0}} (belowHours q room) tt
   below-kind e =
-      row-holds (λ place. Pretensioned) (pretensionedRow q .checks) _ _
-      (alone-holds (place Pretensioned) {holds = not (isPretensioned q)} (rw (ne-eqb (q .kind) 1 e))) refl
+      row-holds (λ p. Pretensioned) (pretensionedRow q .checks) _ _
+      (alone-holds 1 {holds = not (isPretensioned q)} (rw (ne-eqb (q .kind) 1 e))) refl
 
   -- the row of the duct, once it is made
   pub below-duct : {ducted : OrRefusal ℕ} → ducted ≡ checkedBy (ductRow q ∷ []) (frictionOf q)
@@ -61,7 +60,7 @@ pub passed : {A : Type 0} (q : Quantities) (room : ℕ) (value : A) {given : A} 
     → Passed q room
 passed q room value e =
     let above = to-hours q (belowHours q room) value e in
-    let kind-row = row-held (λ place. Pretensioned) (pretensionedRow q .checks) _ value (above .below) in
+    let kind-row = row-held (λ p. Pretensioned) (pretensionedRow q .checks) _ value (above .below) in
     let ducted = duct-held q (roomRow q room ∷ []) value (kind-row .below) in
     let room-row = row-held Buffers (roomRow q room .checks) _ value (ducted .below) in
     let r : Holds (roomRow q room .checks) = all-hold (more (lit< tt) none) (room-row .no-place) in

@@ -14,7 +14,7 @@ use Rattle.fields.specs.Refusals.{acceptanceNumber, number, place}
 use Rattle.checks.specs.Rows.{CheckRow, row, at, checkedBy}
 use Rattle.member.specs.Constants.{stressAlong}
 use Rattle.member.specs.Member.{codesToHours, ductRow}
-use Rattle.elongation.specs.declared.Elongation.{Elongation}
+use Rattle.elongation.specs.declared.Total.{Total}
 use Rattle.elongation.specs.declared.SheetAnswer.{SheetAnswer}
 
 -- "the mean of the stresses at its ends before slip, times its length over Es, in ticks of inch, rounded down only once": both stresses and
@@ -40,13 +40,13 @@ sumOf (elongation ∷ elongations) = elongation + sumOf elongations
 abbrev pub measurablePart : ℕ → ℕ
 measurablePart sum = 80 * sum / 100
 
-abbrev pub totalOf : ℕ → Elongation
+abbrev pub totalOf : ℕ → Total
 totalOf sum = record { sum = sum; measurable = measurablePart sum }
 
 -- what an accepted sheet has: the elongation of each segment, their sum and its measurable part
 pub record Sheet : Type 0 where
   pub elongations : List ℕ
-  pub total : Elongation
+  pub total : Total
 
 unfoldable pub sheetOf : Quantities → Sheet
 unfolding sumOf
@@ -54,18 +54,19 @@ sheetOf q = record { elongations = elongationsOf q; total = totalOf (sumOf (elon
 
 -- ---- the checks
 
--- "13 when the card is pretensioned, checked just before number 4"
+-- "13 when the card is pretensioned, checked just before number 4, place 1"
 abbrev pub pretensionedRow : Quantities → CheckRow
-pretensionedRow q = row (λ place. Refusal.Pretensioned) (at (place Refusal.Pretensioned) (not (isPretensioned q)) ∷ [])
+pretensionedRow q = row (λ p. Refusal.Pretensioned) (at 1 (not (isPretensioned q)) ∷ [])
 
 -- "then 10, place 1, for a buffer under s numbers"
 abbrev pub roomRow : Quantities → ℕ → CheckRow
 roomRow q room = row Refusal.Buffers (at 1 (leb (length (q .path)) room) ∷ [])
 
--- "the sheet makes the card's checks down to the duct", these two among them and behind them
+-- what is checked below the row "hours", in its order
 abbrev pub belowHours : Quantities → ℕ → List CheckRow
 belowHours q room = pretensionedRow q ∷ ductRow q ∷ roomRow q room ∷ []
 
+-- "the sheet makes the card's checks down to the duct, then" that of the room
 abbrev pub sheetRows : Quantities → ℕ → List CheckRow
 sheetRows q room = codesToHours q ++ belowHours q room
 

@@ -12,13 +12,13 @@ use fields::refusal::Reading;
 use fields::refusal::Refusal;
 
 // The sum of the segments' elongations and its measurable part, in ticks of inch.
-pub struct Elongation {
+pub struct Total {
     pub sum: u64,
     pub measurable: u64,
 }
 
 pub enum SheetAnswer {
-    Accepted(Elongation),
+    Accepted(Total),
     Refused(Refusal),
 }
 

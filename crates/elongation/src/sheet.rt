@@ -4,8 +4,8 @@ ghost use Rattle.fields.specs.Quantities.{quantitiesOf};
 ghost use Rattle.checks.specs.Readable.{Readable};
 ghost use Rattle.elongation.specs.Sheet.{sheetResult};
 ghost use Rattle.elongation.specs.Conditions.{Answered};
-use crate::Elongation;
 use crate::SheetAnswer;
+use crate::Total;
 use crate::checking;
 use crate::stretching;
 use fields::limits::HUNDREDTHS;
@@ -29,7 +29,7 @@ pub fn of_fields(
         Rows::Refused(refusal) => SheetAnswer::Refused(refusal),
         Rows::Hold => {
             let sum = stretching::stretch(fields, segments as usize, sheet);
-            SheetAnswer::Accepted(Elongation {
+            SheetAnswer::Accepted(Total {
                 sum,
                 measurable: MEASURABLE * sum / HUNDREDTHS,
             })

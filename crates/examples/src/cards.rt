@@ -70,10 +70,11 @@ fn run_simple_span() {
     run_card(b"simple_span_c.card");
 }
 
-// Document 002, examples 1 and 3: how far each tendon comes out.
+// Document 002, examples 1 and 3: how far each tendon comes out; the third card has the simple span as one segment.
 fn run_sheets() {
     run_sheet(b"box_girder_g.card");
     run_sheet(b"simple_span_c.card");
+    run_sheet(b"simple_span_one_mean.card");
 }
 
 pub(crate) fn run_cards() {

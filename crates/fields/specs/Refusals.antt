@@ -24,6 +24,7 @@ number Refusal.AnchorSet = 12
 number (Refusal.Stress age) = 7
 number (Refusal.Overstress age) = 11
 
+-- of 13 by document 02, W7: "place 1"
 abbrev pub place : Refusal → ℕ
 place (Refusal.Shape line) = line
 place (Refusal.Doubles field) = field

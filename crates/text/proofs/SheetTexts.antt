@@ -12,7 +12,7 @@ use Rattle.fields.specs.declared.refusal.Refusal.{Refusal}
 use Rattle.fields.specs.Quantities.{Quantities}
 use Rattle.fields.specs.Limits.{mostSegments}
 use Rattle.fields.proofs.Buffers.{length-over, tail}
-use Rattle.elongation.specs.declared.Elongation.{Elongation}
+use Rattle.elongation.specs.declared.Total.{Total}
 use Rattle.elongation.specs.declared.SheetAnswer.the-variants.{Accepted, Refused}
 use Rattle.elongation.specs.Sheet.{Sheet, sheetResult, sheetAnswer, elongationsWritten}
 use Rattle.elongation.specs.Conditions.{Answered}
@@ -106,7 +106,7 @@ module _ (q : Quantities) {bytes : ℕ} {buffer old : List ℕ} where
 
 module _ (q : Quantities) (segments : ℕ)
     (count : (given : Sheet) → sheetResult q mostSegments ≡ Gives given → length (given .elongations) ≡ segments)
-    {total : Elongation} {sheet was : List ℕ} (answered : Answered (sheetResult q mostSegments) (Accepted total) sheet was) where
+    {total : Total} {sheet was : List ℕ} (answered : Answered (sheetResult q mostSegments) (Accepted total) sheet was) where
   -- what is accepted: its sum and measurable part, and its elongations at the front of the buffer
   record Given : Type 0 where
     given : Sheet
@@ -136,6 +136,6 @@ module _ (q : Quantities) (segments : ℕ)
       let sheet-is = accepted .given in
       let text : elongationsText 0 (take segments sheet) ++ totalText total ≡ sheetTextOf q =
       ap (λ (l : List ℕ). elongationsText 0 l ++ totalText total) (accepted .front)
-      ∙ ap (λ (t : Elongation). elongationsText 0 (sheet-is .elongations) ++ totalText t) (accepted .total-is)
+      ∙ ap (λ (t : Total). elongationsText 0 (sheet-is .elongations) ++ totalText t) (accepted .total-is)
       ∙ sym (ap sheetText (accepted .gives)) in
       rw text at holds

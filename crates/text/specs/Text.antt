@@ -14,7 +14,7 @@ use Rattle.stages.specs.declared.before.BeforeAges.{BeforeAges}
 use Rattle.stages.specs.declared.intervals.Row.{Row}
 use Rattle.stages.specs.Run.{Report, resultOf}
 use Rattle.entries.specs.Answers.{numbersBefore, numbersOfRow}
-use Rattle.elongation.specs.declared.Elongation.{Elongation}
+use Rattle.elongation.specs.declared.Total.{Total}
 use Rattle.elongation.specs.Sheet.{Sheet, sheetResult}
 use Rattle.text.specs.declared.Program.{Program}
 use Rattle.text.specs.Columns.{lineOf, Holds}
@@ -44,13 +44,14 @@ resultText ages (Refuses refusal) = refusalText refusal
 abbrev pub runText : Quantities → List ℕ
 runText q = resultText (q .ages) (resultOf q mostReport mostScratch)
 
--- document 02, W7: a line for each segment that follows `passed` others, with its elongation; "then the sum, and the measurable part"
+-- the sheet program prints a line for each segment that follows `passed` others, with its elongation; document 02, W7: "then the sum, and
+-- the measurable part"
 unfoldable pub elongationsText : ℕ → List ℕ → List ℕ
 elongationsText passed [] = []
 elongationsText passed (elongation ∷ elongations) =
     lineOf (suc passed ∷ elongation ∷ []) ++ elongationsText (suc passed) elongations
 
-abbrev pub totalText : Elongation → List ℕ
+abbrev pub totalText : Total → List ℕ
 totalText total = lineOf (total .sum ∷ total .measurable ∷ [])
 
 abbrev pub sheetText : OrRefusal Sheet → List ℕ
