@@ -1,5 +1,6 @@
--- The theorem `marked`: document 01's marked readings and edges, all of them, and the edges of document 02's 11 and 12. Each is computed
--- from the definitions, unfolded down to arithmetic, but for the drop at the jack, which is found by its two squares. Assumes nothing.
+-- The theorem `marked`: document 01's marked readings and edges, all of them, the edges of document 02's 11, 12 and 13, and an elongation
+-- sheet. Each is computed from the definitions, unfolded down to arithmetic, but for the drop at the jack, which is found by its two
+-- squares. Assumes nothing.
 use Prim.Native.Nat.{_+_, _*_}
 use mathlib.Core.Path.{_≡_, refl, sym}
 use mathlib.Core.List.{[], _∷_}
@@ -20,16 +21,17 @@ use Rattle.formulas.specs.Steps.{dropAtJack}
 use Rattle.checks.specs.Rows.{firstFailing, segmentCodes, rangesOfSegments, rangesOfMoments, hoursOfAges}
 use Rattle.member.specs.Member.{checkedOf}
 use Rattle.stages.specs.Run.{memberResult}
+use Rattle.elongation.specs.Sheet.{elongationsFrom, sumOf, sheetResult}
 use Rattle.text.specs.Columns.{firstColumns}
-use Rattle.text.specs.Text.{agesText, textOf}
+use Rattle.text.specs.Text.{agesText, elongationsText, textOf}
 use Rattle.readings.specs.Readings.{Marked, withAnchorSet, linesOf, fieldsOf, hourly, numberAndPlace, resultOfCard, withAges}
 use Rattle.readings.specs.Readings.{double0153, halfApart}
 
 -- what opens every definition that a reading is computed by, but the drop at the jack
 unfoldable computed : Unit {0}
-unfolding firstColumns agesText textOf linesOf fieldsOf hourly cardOutcome digitsOf spacesIn round toBits listOutcome countsIn amountsBy
+unfolding firstColumns agesText elongationsText textOf linesOf fieldsOf hourly cardOutcome digitsOf spacesIn round toBits listOutcome countsIn amountsBy
     wholeOf ticksOf magnitude numbersIn segmentsFrom agesFrom checkedOf firstFailing segmentCodes rangesOfSegments rangesOfMoments
-    hoursOfAges memberResult logarithm scf ssf mcf ucr ush creepShare shrinkageShare pathFriction pathLength factor
+    hoursOfAges memberResult logarithm scf ssf mcf ucr ush creepShare shrinkageShare pathFriction pathLength factor sheetResult elongationsFrom sumOf
 computed = tt
 
 -- in a declaration of its own: with a wrong limit the card of one age more would run too, and one may not take the steps of both
@@ -92,4 +94,8 @@ marked = record {
   slip-reaches-passes = slip-reaches;
   slip-beyond-refused = slip-beyond;
   slip-beyond-keeps-scratch = refl;
+  sheet-printed = refl;
+  mean-unrounded = refl;
+  sheet-refused-with-4 = refl;
+  sheet-refused-with-13 = refl;
 }

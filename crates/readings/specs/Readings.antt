@@ -1,5 +1,6 @@
--- The theorem `marked` rests on it. The readings that document 01 marks ★, and its edges, in the order of its "Sample beam", and the edges
--- of document 02's 11 and 12: one list of what the definitions of the other crates give, to be held beside the papers.
+-- The theorem `marked` rests on it. The readings that document 01 marks ★, and its edges, in the order of its "Sample beam"; the edges of
+-- document 02's 11, 12 and 13, and the elongation sheet of document 002's example 1: one list of what the definitions of the other crates
+-- give, to be held beside the papers.
 use Prim.Native.Nat.{ℕ, zero, suc, _+_, _-_, _*_, _^_, _≤_}
 use mathlib.Core.Bool.{true, false}
 use mathlib.Core.List.{List, [], _∷_, _++_, map}
@@ -25,6 +26,7 @@ use Rattle.member.specs.Member.{frictionOf, memberOf}
 use Rattle.stages.specs.declared.before.BeforeAges.{BeforeAges}
 use Rattle.stages.specs.declared.intervals.Row.{Row}
 use Rattle.stages.specs.Run.{begunOf, endAt, transferEnd, lossesBetween, together, gainBetween, Report, resultRead}
+use Rattle.elongation.specs.Sheet.{elongation}
 use Rattle.text.specs.Columns.{allInColumns, lineOf}
 use Rattle.text.specs.declared.Program.{Program}
 use Rattle.text.specs.Text.{textOf}
@@ -87,12 +89,27 @@ listOf ages lines = map doubleOf (fieldsOf (headInUnits ages ++ lines))
 abbrev pub withVolumeToSurface : ℕ → List ℕ
 withVolumeToSurface volumeToSurface = linesOf (line1 ∷ line2 volumeToSurface ∷ line3 ∷ line4 0 0 0 3 ∷ ageLines)
 
--- wobble 1, curvature 150,000, bends of 4, 4 and 2 radians and a straight segment of this length
-abbrev pub withDuct : ℕ → List ℕ
-withDuct straight =
+-- under this line 1: wobble 1, curvature 150,000, bends of 4, 4 and 2 radians and a straight segment of this length
+abbrev pub ductUnder : List ℕ → ℕ → List ℕ
+ductUnder first straight =
     linesOf
-    (line1 ∷ line2 3072 ∷ line3 ∷ line4 1 150000 4 3 ∷ (3 ∷ 0 ∷ 4096 ∷ []) ∷ (3 ∷ 0 ∷ 4096 ∷ []) ∷ (3 ∷ 0 ∷ 2048 ∷ [])
+    (first ∷ line2 3072 ∷ line3 ∷ line4 1 150000 4 3 ∷ (3 ∷ 0 ∷ 4096 ∷ []) ∷ (3 ∷ 0 ∷ 4096 ∷ []) ∷ (3 ∷ 0 ∷ 2048 ∷ [])
     ∷ (1 ∷ straight ∷ 0 ∷ []) ∷ ageLines)
+
+abbrev pub withDuct : ℕ → List ℕ
+withDuct straight = ductUnder line1 straight
+
+-- the sample's line 1 but for its kind
+abbrev pub pretensioned1 : List ℕ
+pretensioned1 = 1 ∷ 1 ∷ 240000 ∷ 120000 ∷ 0 ∷ 0 ∷ 102400 ∷ []
+
+-- document 002, example 1: jacked to 202.5 ksi, K 0.0002, µ 0.15, six parabolas, their rises to the nearest tick; else the sample's
+abbrev pub boxGirder : List ℕ
+boxGirder =
+    linesOf
+    ((2 ∷ 2 ∷ 270000 ∷ 202500 ∷ 0 ∷ 0 ∷ 307200 ∷ []) ∷ line2 3072 ∷ line3 ∷ line4 200 150000 6 3 ∷ (2 ∷ 65536 ∷ 2560 ∷ [])
+    ∷ (2 ∷ 81920 ∷ 3413 ∷ []) ∷ (2 ∷ 16384 ∷ 682 ∷ []) ∷ (2 ∷ 14336 ∷ 682 ∷ []) ∷ (2 ∷ 71680 ∷ 3413 ∷ []) ∷ (2 ∷ 57344 ∷ 2560 ∷ [])
+    ∷ ageLines)
 
 -- so many ages, an hour apart, from this hour on
 unfoldable pub hourly : ℕ → ℕ → List (List ℕ)
@@ -282,3 +299,14 @@ pub record Marked : Type 0 where
   pub slip-beyond-refused : numberAndPlace (resultOfCard (withAnchorSet 102399)) ≡ 12 ∷ 7 ∷ []
   -- "refusal 7 alone may alter the scratch", and 11: not 12
   pub slip-beyond-keeps-scratch : mayAlterScratch Refusal.AnchorSet ≡ false
+  -- document 02, W7: "For each segment .. then the sum, and the measurable part", in ticks of inch; document 002 has 5.49, 6.68, 1.31,
+  -- 1.13, 5.50, 4.28, then 24.39 and 19.51 inches
+  pub sheet-printed : textOf Program.Sheet boxGirder
+      ≡ linesOf
+      ((1 ∷ 5618 ∷ []) ∷ (2 ∷ 6839 ∷ []) ∷ (3 ∷ 1337 ∷ []) ∷ (4 ∷ 1151 ∷ []) ∷ (5 ∷ 5629 ∷ []) ∷ (6 ∷ 4386 ∷ [])
+      ∷ (24960 ∷ 19968 ∷ []) ∷ [])
+  -- "rounded down only once": with the mean, 122,754,389.5, rounded by itself it would be a tick less
+  pub mean-unrounded : elongation 24000000 122880000 122628779 2095759 ≡ 125617
+  -- "13 when the card is pretensioned, checked just before number 4, place 1"
+  pub sheet-refused-with-4 : textOf Program.Sheet (ductUnder line1 184) ≡ linesOf ((4 ∷ 2 ∷ []) ∷ [])
+  pub sheet-refused-with-13 : textOf Program.Sheet (ductUnder pretensioned1 184) ≡ linesOf ((13 ∷ 1 ∷ []) ∷ [])
