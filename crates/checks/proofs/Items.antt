@@ -1,6 +1,6 @@
 -- The segments and the ages that are left when some are passed: the next one, and where none is left. Each is read off the list
 -- at its own place. Assumes nothing.
-use mathlib.Core.Path.{_≡_, refl, _∙_}
+use mathlib.Core.Path.{_≡_, _∙_}
 use mathlib.Core.List.{List, [], _∷_}
 use Prim.Native.Nat.{ℕ, zero, suc, _+_, _-_, _*_, _≤_, _<_}
 use native.Mathlib.Nat.{add-zero, sub-zero}

@@ -3,18 +3,17 @@
 use mathlib.Core.Path.{_≡_, refl, _∙_}
 use mathlib.Core.List.{List, []}
 use Prim.Native.Nat.{ℕ}
-use native.Mathlib.Omega.{arith}
 use lib.ListN.{length, replicate}
 use Rattle.fields.specs.declared.refusal.Refusal.{Refusal}
 use Rattle.fields.specs.declared.refusal.Reading.{Reading}
-use Rattle.fields.specs.declared.refusal.Reading.the-variants.{Fields, Not}
+use Rattle.fields.specs.declared.refusal.Reading.the-variants.{Fields}
 use Rattle.fields.specs.Outcomes.{OrRefusal, Gives, Refuses, onward, Outcome, over}
-use Rattle.fields.specs.Quantities.{Quantities, quantitiesOf, quantitiesIn}
+use Rattle.fields.specs.Quantities.{Quantities, quantitiesIn}
 use Rattle.fields.specs.Sizes.{mostFields}
 use Rattle.fields.proofs.Accepted.{Accepted}
 use Rattle.checks.specs.Rows.{checkedBy}
 use Rattle.checks.proofs.Cascade.{in-parts}
-use Rattle.checks.proofs.Reading.{same-read}
+use Rattle.checks.proofs.Reading.{of-read, same-read}
 use Rattle.elongation.specs.declared.SheetAnswer.{SheetAnswer}
 use Rattle.elongation.specs.declared.SheetAnswer.the-variants.{Accepted as Sheeted, Refused}
 use Rattle.elongation.specs.Sheet.{Sheet, sheetOf, totalOf, sheetRows, sheetResult, Written}
@@ -50,14 +49,9 @@ written result answered =
 module _ (outcome : Outcome)
     (counted : (segments ages : ℕ) → outcome .reading ≡ Fields segments ages → Accepted (outcome .numbers) segments ages) where
   all-close : (room : ℕ) → CloseIfAccepted outcome room
-  all-close room q given read = by (outcome .reading) refl read
-    where
-      by : (reading : Reading) → outcome .reading ≡ reading → quantitiesIn reading (outcome .numbers) ≡ Gives q
-          → sheetResult q room ≡ Gives given → SheetClose q given
-      by (Not refusal) e read gives = let never : _≡_ {A = ℕ} 0 1 = cc in absurd (omega arith)
-      by (Fields segments ages) e read gives =
-          let same : quantitiesOf segments ages (outcome .numbers) ≡ q = cc in
-          rw (← same) (close segments ages (outcome .numbers) (counted segments ages e .few-segments) room given (rw (← same) at gives))
+  all-close room q given read =
+      of-read outcome (λ q. sheetResult q room ≡ Gives given → SheetClose q given)
+      (λ segments ages e. close segments ages (outcome .numbers) (counted segments ages e .few-segments) room given) q read
 
   pub promised : (reading : Reading) (fields : List ℕ) → reading ≡ outcome .reading
       → fields ≡ over (outcome .numbers) (replicate mostFields 0) → {answer : SheetAnswer} {sheet sheetWas : List ℕ}

@@ -6,7 +6,7 @@ use mathlib.Core.List.{List, [], _∷_}
 use Prim.Native.Nat.{ℕ, zero, suc, _+_, _*_, _/_, _≤_, _<_}
 use native.Mathlib.Nat.{zero-add, mul-le-mul, mul-le-mul-right}
 use native.Mathlib.Omega.{arith}
-use lib.Dec.{lit<, lit≤}
+use lib.Dec.{lit<}
 use lib.ListN.{length, getD, drop}
 use Rattle.fraction.specs.Fraction.{Fraction, whole, _⊕_, _⊗_, _÷_, _≼_, Within}
 use Rattle.fraction.specs.Equality.{_≈_, over}
@@ -27,7 +27,7 @@ use Rattle.member.proofs.Laws.{head-alone}
 use Rattle.tolerance.specs.Method.{FactorsAlong, stressAlong}
 use Rattle.tolerance.proofs.Rounded.{rounded-within, floor-rounded}
 use Rattle.tolerance.proofs.Concrete.{highestStress}
-use Rattle.tolerance.proofs.Path.{pathError, some-factors, along-close}
+use Rattle.tolerance.proofs.Path.{some-factors, along-close}
 use Rattle.elongation.specs.Sheet.{elongation as ticksElongation, elongationsFrom as ticksFrom, sumOf as ticksSum, Sheet, sheetOf}
 use Rattle.elongation.specs.Sheet.{sheetRows, sheetResult}
 use Rattle.elongation.specs.Close.{elongation, elongationsFrom, sumOf, measurablePart, stressDistance, worth, segmentDistance}

@@ -2,7 +2,7 @@
 -- the stress before the next segment and the sum are those of the segments that are passed. Assumes nothing.
 use mathlib.Core.Path.{_≡_, refl, sym, ap, _∙_}
 use mathlib.Core.List.{List, [], _∷_, _++_, append-assoc, append-nil}
-use Prim.Native.Nat.{ℕ, suc, _+_, _-_, _*_, _≤_, _<_}
+use Prim.Native.Nat.{ℕ, suc, _+_, _*_, _≤_, _<_}
 use native.Mathlib.Numerals.{add-one}
 use native.Mathlib.Nat.{le-trans}
 use native.Mathlib.Omega.{arith}
@@ -12,10 +12,9 @@ use Rattle.formulas.specs.Conditions.{stressLimit, FrictionFits}
 use Rattle.formulas.proofs.Laws.{stress-left-most}
 use Rattle.fields.specs.Outcomes.{over}
 use Rattle.fields.specs.Quantities.{headFields, perSegment, Quantities, Segment, quantitiesOf}
-use Rattle.fields.specs.Limits.{range, mostFriction, mostSegments}
+use Rattle.fields.specs.Limits.{mostFriction, mostSegments}
 use Rattle.fields.specs.Sizes.{mostFields}
 use Rattle.fields.proofs.Buffers.{length-over, set-behind}
-use Rattle.fields.proofs.Laws.{segments-length}
 use Rattle.checks.proofs.Items.{segmentAt, leftSegments, left-segments, next-segment, no-segment}
 use Rattle.member.specs.Constants.{segmentFriction, pathFriction, jacked, stressAlong}
 use Rattle.member.specs.Facts.{SegmentFits}

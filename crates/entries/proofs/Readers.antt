@@ -1,16 +1,15 @@
 -- What a reader gives, of a card or of a list, with its fields lent: an exact run of the lent fields keeps the promise. Assumes nothing.
-use mathlib.Core.Path.{_≡_, refl}
+use mathlib.Core.Path.{_≡_}
 use mathlib.Core.List.{List}
 use Prim.Native.Nat.{ℕ}
-use native.Mathlib.Omega.{arith}
 use lib.ListN.{length, replicate}
 use Rattle.fields.specs.declared.refusal.Reading.{Reading}
-use Rattle.fields.specs.declared.refusal.Reading.the-variants.{Fields, Not}
+use Rattle.fields.specs.declared.refusal.Reading.the-variants.{Fields}
 use Rattle.fields.specs.Outcomes.{onward, Outcome, over, Gives}
-use Rattle.fields.specs.Quantities.{quantitiesOf, quantitiesIn}
+use Rattle.fields.specs.Quantities.{quantitiesIn}
 use Rattle.fields.specs.Sizes.{mostFields}
 use Rattle.fields.proofs.Accepted.{Accepted}
-use Rattle.checks.proofs.Reading.{same-read}
+use Rattle.checks.proofs.Reading.{of-read, same-read}
 use Rattle.stages.specs.Run.{resultOf}
 use Rattle.tolerance.specs.Demand.{Demand3}
 use Rattle.entries.specs.declared.Answer.{Answer}
@@ -22,16 +21,12 @@ module _ (outcome : Outcome)
     (counted : (segments ages : ℕ) → outcome .reading ≡ Fields segments ages → Accepted (outcome .numbers) segments ages) where
   -- every result is close
   pub all-close : (report scratch : ℕ) → CloseIfAccepted outcome report scratch
-  all-close report scratch q given read = by (outcome .reading) refl read
-    where
-      by : (reading : Reading) → outcome .reading ≡ reading → quantitiesIn reading (outcome .numbers) ≡ Gives q
-          → resultOf q report scratch ≡ Gives given → Demand3 q given
-      by (Not refusal) e read gives = let never : _≡_ {A = ℕ} 0 1 = cc in absurd (omega arith)
-      by (Fields segments ages) e read gives =
-          let good = counted segments ages e in
-          let same : quantitiesOf segments ages (outcome .numbers) ≡ q = cc in
-          rw (← same)
-          (close segments ages (outcome .numbers) (good .few-segments) (good .few-ages) report scratch given (rw (← same) at gives))
+  all-close report scratch q given read =
+      of-read outcome (λ q. resultOf q report scratch ≡ Gives given → Demand3 q given)
+      (λ segments ages e.
+      let good = counted segments ages e in
+      close segments ages (outcome .numbers) (good .few-segments) (good .few-ages) report scratch given)
+      q read
 
   pub promised : (reading : Reading) (fields : List ℕ) → reading ≡ outcome .reading
       → fields ≡ over (outcome .numbers) (replicate mostFields 0)

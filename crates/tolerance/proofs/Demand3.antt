@@ -8,11 +8,11 @@ use mathlib.Core.Path.{_≡_, refl, subst}
 use mathlib.Core.Bool.{Bool, true, false, cond}
 use mathlib.Core.List.{List, _∷_, _++_}
 use Prim.Native.Nat.{ℕ, zero, suc, _+_, _-_, _*_, _≤_, _<_}
-use native.Mathlib.Nat.{le-refl, le-trans, min-eq-left, mul-le-mul-left, mul-le-mul-right, add-sub-cancel-left}
+use native.Mathlib.Nat.{le-refl, mul-le-mul-left, mul-le-mul-right, add-sub-cancel-left}
 use native.Mathlib.Decide.{decLt}
 use native.Mathlib.Omega.{arith}
 use borrow.Author.Tests.{lt-ltb, le-ltb}
-use lib.ListN.{length, getD, take, length-take}
+use lib.ListN.{length, getD}
 use lib.Seq.{take-all}
 use Rattle.fraction.specs.Fraction.{Fraction, whole, larger, Within}
 use Rattle.fraction.proofs.Laws.{≈-sym, ≼-trans, ≼-of-≈, whole-⊕, zero-⊕, larger-left, larger-right}
@@ -20,17 +20,14 @@ use Rattle.fraction.proofs.Floors.{whole-order}
 use Rattle.fraction.proofs.Distances.{within-refl, within-weaken}
 use Rattle.fields.specs.Outcomes.{Gives}
 use Rattle.fields.specs.Quantities.{Quantities}
-use Rattle.fields.specs.Limits.{mostSegments, mostAges, mostFriction}
-use Rattle.exponential.specs.Factor.{powers}
-use Rattle.exponential.specs.Series.{sumTo}
-use Rattle.exponential.proofs.Series.{series}
+use Rattle.fields.specs.Limits.{mostSegments, mostAges}
 use Rattle.formulas.proofs.Laws.{stress-left-most}
-use Rattle.member.specs.Constants.{pathFriction, jacked, stressAlong as ticksAlong}
+use Rattle.member.specs.Constants.{jacked, stressAlong as ticksAlong}
 use Rattle.member.specs.Member.{memberOf, frictionOf}
-use Rattle.member.specs.Facts.{SegmentsFit, Facts}
+use Rattle.member.specs.Facts.{Facts}
 use Rattle.stages.specs.declared.before.BeforeAges.{BeforeAges}
 use Rattle.stages.specs.Run.{Report, memberResult}
-use Rattle.tolerance.specs.Method.{Choice, exponentAlong, FactorsAlong, stressAlong, afterTendonSlip, afterDeflector}
+use Rattle.tolerance.specs.Method.{Choice, FactorsAlong, stressAlong, afterTendonSlip, afterDeflector}
 use Rattle.tolerance.specs.Method.{stepsAfterSlip}
 use Rattle.tolerance.specs.Demand.{stepsOf, exactAfterSlip, exactStresses, coreAfterSlip, coreAfterDeflector}
 use Rattle.tolerance.specs.Demand.{slipDiesOut, countedAtSlip, counted, coreAfterEarly, stressesBy}

@@ -1,7 +1,6 @@
 -- The rows are those to "hours", and then that of the duct. Assumes nothing.
 use mathlib.Core.Path.{_≡_, sym, ap, _∙_}
 use mathlib.Core.List.{[], _∷_}
-use Prim.Native.Nat.{ℕ}
 use Rattle.fields.specs.Outcomes.{OrRefusal, Gives, onward}
 use Rattle.fields.specs.Given.{rowsGiven}
 use Rattle.fields.specs.Quantities.{Quantities, quantitiesOf}

@@ -1,7 +1,6 @@
 -- The rows are made in their order: 13, the duct, the room. Assumes nothing.
 use mathlib.Core.Path.{_≡_, sym, ap, _∙_}
 use mathlib.Core.List.{[], _∷_}
-use Prim.Native.Nat.{ℕ}
 use borrow.Author.Needs.{needs}
 use lib.ListN.{length, drop}
 use Rattle.fields.specs.Given.{numberGiven}

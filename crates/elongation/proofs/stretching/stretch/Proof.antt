@@ -1,12 +1,12 @@
 -- The invariant is `Stretching`: the elongations of the segments before are in the sheet. A turn brings one more, and the last turn all. The
 -- measure is how many segments are left. Assumes nothing.
-use mathlib.Core.Path.{_≡_, ap, _∙_}
+use mathlib.Core.Path.{ap}
 use Prim.Native.Nat.{ℕ, _+_, _-_, _*_, _≤_}
 use native.Mathlib.Omega.{arith}
 use borrow.Author.Needs.{needs}
 use denote.Ref.{now}
-use lib.ListN.{length, drop, length-drop}
-use Rattle.fields.specs.Quantities.{headFields, perSegment, quantitiesOf}
+use lib.ListN.{length}
+use Rattle.fields.specs.Quantities.{perSegment, quantitiesOf}
 use Rattle.elongation.proofs.Walk.{Stretching, none-stretched, friction-small, here, friction-fits, elongation-fits, one-more}
 use Rattle.elongation.proofs.Walk.{listed, all-stretched}
 use Rattle.elongation.proofs.stretching.stretch.Statement.{statement}

@@ -1,6 +1,5 @@
 -- Each part is at most 10^9. Assumes nothing.
 use native.Mathlib.Omega.{arith}
-use borrow.Author.Needs.{needs}
 use Rattle.member.proofs.path.segment_friction.Statement.{statement}
 use Rattle.member.proofs.path.segment_friction.Tie as tie
 

@@ -3,14 +3,12 @@ use mathlib.Core.Path.{_≡_, sym, _∙_}
 use native.Mathlib.Omega.{arith}
 use borrow.Author.Needs.{needs}
 use denote.Ref.{now}
-use lib.ListN.{length, drop, replicate}
+use lib.ListN.{length, drop}
 use Rattle.fields.specs.Outcomes.{Gives}
 use Rattle.fields.specs.Quantities.{headFields, Quantities, quantitiesOf}
 use Rattle.fields.specs.Limits.{mostSegments}
 use Rattle.fields.proofs.Laws.{segments-length}
-use Rattle.elongation.specs.declared.SheetAnswer.the-variants.{Accepted}
 use Rattle.elongation.specs.Sheet.{Sheet, sheetResult}
-use Rattle.elongation.specs.Conditions.{Answered}
 use Rattle.elongation.proofs.Closeness.{close}
 use Rattle.text.proofs.Laying.{counted}
 use Rattle.text.proofs.Texts.{holds-then}
