@@ -39,7 +39,7 @@ one-step-more k step = ≼-trans (≼-of-≈ (≈-sym (whole-⊕ step (k * step)
 
 module _ {q : Quantities} {report scratch : ℕ} (facts : Facts q report scratch) where
   -- what lies near a stress of the core, and that stress itself, are not above the stresses that keep their distance
-  near-in-room : (n d : ℕ) (y : Fraction) → Low q n → d ≤ mostSteps * wideStep → Within (whole d) (whole n) y → y ≼ mostStressOf q
+  pub near-in-room : (n d : ℕ) (y : Fraction) → Low q n → d ≤ mostSteps * wideStep → Within (whole d) (whole n) y → y ≼ mostStressOf q
   near-in-room n d y n≤ d≤ near = room (steelOf (q .steel)) (q .ultimateStrength) n d y (facts .head .ultimate-least) n≤ d≤ (near .below)
 
   pub core-in-room : (n : ℕ) → Low q n → whole n ≼ mostStressOf q

@@ -164,11 +164,16 @@ module _ (q : Quantities) (fits : SegmentsFit (q .path)) (few : length (q .path)
   part-most : (j : ℕ) → ticksFriction (q .wobble) (q .curvature) (take j (q .path)) ≤ mostFriction
   part-most j = le-trans (friction-of-part (q .wobble) (q .curvature) (q .path) j) most
 
+  -- X/T of the first j segments, not rounded
+  pub exponent-between : (j : ℕ) → j ≤ length (q .path) → (whole 0 ≼ exponentAlong q j) × (exponentAlong q j ≼ whole 2)
+  exponent-between j h =
+      let part = take j (q .path) in (
+        exponent-not-negative q part (part-fits j) (part-few j h) (part-most j),
+        exponent-most q part (part-fits j) (part-few j h) (part-most j),
+      )
+
   pub some-factors : FactorsAlong q (λ j. sumTo powers (exponentAlong q j))
-  some-factors j h =
-      let part = take j (q .path) in
-      series .some-allowed (exponentAlong q j) (exponent-not-negative q part (part-fits j) (part-few j h) (part-most j))
-      (exponent-most q part (part-fits j) (part-few j h) (part-most j))
+  some-factors j h = let (least, most) = exponent-between j h in series .some-allowed (exponentAlong q j) least most
 
   -- after the first j segments
   pub along-close : jacked q ≤ highestStress → {factor : ℕ → Fraction} → FactorsAlong q factor → (j : ℕ) → j ≤ length (q .path)

@@ -31,17 +31,17 @@ yieldPart StressRelieved = 85
 yieldPart LowRelaxation = 90
 
 -- steel 1 has the lower Y and the smaller D
-abbrev lowestYield : ℕ
+abbrev pub lowestYield : ℕ
 lowestYield = yieldPart StressRelieved
 
 abbrev pub leastDivisor : ℕ
 leastDivisor = relaxationDivisor StressRelieved
 
 -- f·T/Y for an f up to 0.80 F, rounded up, and 1 for the rounded Y; and q by it
-abbrev mostRatio : ℕ
+abbrev pub mostRatio : ℕ
 mostRatio = mostOfStrength * T / lowestYield + 2
 
-abbrev mostFactor : ℕ
+abbrev pub mostFactor : ℕ
 mostFactor = mostRatio - 55 * T / 100
 
 -- q: f·T/Y and 0.55 T, each rounded
@@ -52,7 +52,7 @@ factorError = 2
 abbrev mostPerLogarithm : ℕ
 mostPerLogarithm = highestStress / leastDivisor
 
-abbrev mostInner : ℕ
+abbrev pub mostInner : ℕ
 mostInner = mostPerLogarithm * mostRise
 
 -- in the inner part: a division, and what logarithms up to δ above the table's cost

@@ -1,0 +1,7 @@
+pub mod Beside
+pub mod Factors
+pub mod Growth
+pub mod Runs
+pub mod Kept
+pub mod Fractions
+pub mod GaugeDrift

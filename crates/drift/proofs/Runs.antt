@@ -1,0 +1,85 @@
+-- An accepted run of a member whose slip goes over the tendon, and what is known of it: the member's facts, demand 3, and each loss before
+-- the ages with the stress that it leaves. Assumes nothing.
+use mathlib.Core.Path.{_≡_}
+use mathlib.Core.Bool.{false}
+use Prim.Native.Nat.{ℕ, _-_, _≤_}
+use native.Mathlib.Nat.{le-refl}
+use native.Mathlib.Omega.{arith}
+use lib.ListN.{length}
+use lib.Seq.{take-all}
+use Rattle.fields.specs.Quantities.{Quantities}
+use Rattle.fields.specs.Limits.{mostSegments, mostAges}
+use Rattle.fields.specs.Outcomes.{Gives}
+use Rattle.fields.proofs.Onward.{through}
+use Rattle.formulas.specs.Steps.{slipLoss}
+use Rattle.formulas.proofs.Laws.{stress-left-most}
+use Rattle.member.specs.Constants.{jacked, stressAlong}
+use Rattle.member.specs.Member.{memberOf, frictionOf, checkedOf}
+use Rattle.member.specs.Facts.{Facts}
+use Rattle.member.proofs.Laws.{accepted}
+use Rattle.stages.specs.Run.{earlyRelaxationOf, shorteningOf, Report, memberResult, resultOf}
+use Rattle.tolerance.specs.Demand.{coreAfterDeflector, coreAfterEarly, Demand3}
+use Rattle.tolerance.specs.Demand.{slipDiesOut as slipDied}
+use Rattle.tolerance.proofs.Demand3.{demand-3}
+use Rattle.tolerance.proofs.Run.{Began, AgesRun, run, slips-over-the-tendon}
+use Rattle.drift.specs.Drift.{slipDiesOut}
+
+pub record AcceptedRun (q : Quantities) (given : Report) : Type 0 where
+  pub report : ℕ
+  pub scratch : ℕ
+  pub few-segments : length (q .path) ≤ mostSegments
+  pub few-ages : length (q .ages) ≤ mostAges
+  pub facts : Facts q report scratch
+  pub result-is : memberResult (memberOf q) (q .ages) ≡ Gives given
+  pub began : Began q (given .before)
+  pub ran : AgesRun q (q .ownWeightMoment) (q .transfer) (given .before .stress) (q .ages) (given .rows) (given .last)
+  pub not-died : slipDied q (given .before) ≡ false
+  pub demand : Demand3 q given
+
+pub accepted-run : (q : Quantities) (report scratch : ℕ) {given : Report} → length (q .path) ≤ mostSegments
+    → length (q .ages) ≤ mostAges → slipDiesOut q ≡ false → resultOf q report scratch ≡ Gives given → AcceptedRun q given
+accepted-run q report scratch {given} few-segments few-ages over result =
+    let checked = through (checkedOf q report scratch) (λ m. memberResult m (q .ages)) result in
+    let known = accepted q report scratch (checked .given-is) in
+    let result-is = rw (known .is) at (checked .next-is) in
+    let (began, ran) = run q given result-is in
+    record {
+      report = report;
+      scratch = scratch;
+      few-segments = few-segments;
+      few-ages = few-ages;
+      facts = known .facts;
+      result-is = result-is;
+      began = began;
+      ran = ran;
+      not-died = rw (began .friction) over;
+      demand = demand-3 q report scratch few-segments few-ages (known .facts) given result-is;
+    }
+
+-- ---- the losses before the ages, each no larger than the stress before it, and what they leave
+
+module _ {q : Quantities} {given : Report} (accepted : AcceptedRun q given) where
+  abbrev began : Began q (given .before)
+  began = accepted .began
+
+  -- what friction leaves is the stress after the last segment
+  pub friction-leaves : jacked q - given .before .friction ≡ stressAlong q (length (q .path))
+  friction-leaves =
+      rw (take-all (length (q .path)) (q .path) (le-refl (length (q .path))))
+      (omega (arith, began .friction, stress-left-most (jacked q) (frictionOf q)))
+
+  pub slip-is : given .before .slip ≡ slipLoss (q .Es) (q .slip) (q .tendonLength)
+  slip-is = slips-over-the-tendon began (accepted .not-died)
+
+  pub early-fits : earlyRelaxationOf (memberOf q) (coreAfterDeflector q (given .before)) ≤ coreAfterDeflector q (given .before)
+  early-fits = omega (arith, began .early, began .closes)
+
+  pub shortening-fits : shorteningOf (memberOf q) (coreAfterEarly q (given .before)) ≤ coreAfterEarly q (given .before)
+  shortening-fits = omega (arith, began .shortening, began .closes)
+
+  pub shortening-leaves :
+      given .before .stress ≡ coreAfterEarly q (given .before) - shorteningOf (memberOf q) (coreAfterEarly q (given .before))
+  shortening-leaves = omega (arith, began .shortening, began .closes)
+
+  pub not-above-jacked : given .before .stress ≤ jacked q
+  not-above-jacked = omega (arith, began .closes)
