@@ -4,17 +4,16 @@
 //! and the elongation sheets of random cards as the program prints them, as C hosts have no entry for these.
 
 mod paper;
+mod program;
+mod random;
 
 use paper::Field::*;
-use paper::{age, elongation_sheet, head_lines, in_ticks, is_long, printed_line, range, read_card, read_list, refused, segment};
+use paper::{elongation_sheet, in_ticks, is_long, printed_line, range, read_card, read_list, refused};
 use paper::{Answer, Field, Member, Paper, Reading, Refusal, Run, Sheet, Stretch};
-use paper::{ACCELERATED, AGE_FIELDS, BEND, BLANK_SLIP, CODES, COLUMNS, FIRST_CODE, HEAD_FIELDS, LAST_CODE, LEAST_AGES, LEAST_TRANSFER};
-use paper::{LEAST_TRANSFER_IF_MOIST, LIFE, MOIST, MOST_AGES, MOST_CURING_IF_MOIST, MOST_SEGMENTS, MOST_STRENGTH, MOST_TRANSFER};
-use paper::{PARABOLA, POST_TENSIONED, PRETENSIONED, RANGES, ROW_NUMBERS, SCRATCH_NUMBERS_OF_AGE, SEGMENT_FIELDS, STRAIGHT, TICKS};
-use std::io::Write;
-use std::path::{Path, PathBuf};
-use std::process::{Command, Stdio};
-use std::thread;
+use paper::{BEND, BLANK_SLIP, CODES, COLUMNS, FIRST_CODE, LAST_CODE, LEAST_TRANSFER, LIFE, MOST_AGES, MOST_SEGMENTS, MOST_TRANSFER};
+use paper::{POST_TENSIONED, PRETENSIONED, RANGES, ROW_NUMBERS, SCRATCH_NUMBERS_OF_AGE, TICKS};
+use program::{on_threads, printed, program};
+use random::{hold_kinds, lines_of, losses, member, with_columns, Random, LEAST_COUNT};
 use stratelyn::REPLY_BYTES;
 
 const CASES: usize = 200_000;
@@ -23,13 +22,8 @@ const BYTES_OF_NUMBER: usize = 8;
 /// An answer is accepted, 0, or one of the refusals.
 const ANSWERS: usize = refused::LAST as usize + 1;
 
-/// Each answer and kind comes up at least so often.
-const LEAST_COUNT: usize = 50;
-
-/// Cards whose sheets are compared, a process for each; the threads that start these; and the room that the program lends, enough for
-/// every card.
+/// Cards whose sheets are compared, a process for each, and the room that the program lends, enough for every card.
 const SHEETS: usize = 10_000;
-const SHEET_THREADS: usize = 2;
 const SHEET_ROOM: usize = MOST_SEGMENTS as usize;
 
 /// At least one case in so many sets its anchor along a duct, by document 02's W5.
@@ -38,150 +32,10 @@ const CASES_TO_A_SET: usize = 4;
 /// The slip of older wedges, which a blank field read before document 02's W2.
 const OLDER_SLIP: u64 = 256;
 
-/// The most ages up to document 02's W6.
-const OLDER_MOST_AGES: u64 = 64;
-
-/// Numbers that look random, from a fixed seed.
-struct Random(u64);
-
-impl Random {
-    fn next(&mut self) -> u64 {
-        self.0 ^= self.0 << 13;
-        self.0 ^= self.0 >> 7;
-        self.0 ^= self.0 << 17;
-        self.0.wrapping_mul(0x2545_F491_4F6C_DD1D)
-    }
-
-    fn below(&mut self, n: u64) -> u64 {
-        self.next() % n
-    }
-
-    fn between(&mut self, low: u64, high: u64) -> u64 {
-        low + self.below(high - low + 1)
-    }
-
-    fn one_in(&mut self, n: u64) -> bool {
-        self.below(n) == 0
-    }
-
-    fn pick<T: Copy>(&mut self, from: &[T]) -> T {
-        from[self.below(from.len() as u64) as usize]
-    }
-
-    fn fill(&mut self, length: usize) -> Vec<u8> {
-        (0..length).map(|_| self.next() as u8).collect()
-    }
-}
-
 /// The ends at which fields are tried: ranges, codes, and the transfer hour.
 fn edges() -> Vec<(Field, u64, u64)> {
     let codes = CODES.map(|field| (field, FIRST_CODE, LAST_CODE));
     [&RANGES[..], &codes, &[(Transfer, LEAST_TRANSFER, MOST_TRANSFER)]].concat()
-}
-
-/// Fields of the section. At times it is slender: there the moments of ages lift the stress as far as 0.80 F and beyond.
-fn section(r: &mut Random, area: u64) -> [(Field, u64); 4] {
-    if r.one_in(4) {
-        let inertia_bits = r.between(11, 24);
-        let inertia = r.between(1 << 10, 1 << inertia_bits);
-        [(Inertia, inertia), (Eccentricity, r.below(4096)), (SteelArea, r.between(1, 4)), (OwnWeightMoment, r.below(1 << 20))]
-    } else {
-        let inertia = r.between(1 << 20, 1 << 33);
-        let steel_area = r.between(1, area / 100);
-        [(Inertia, inertia), (Eccentricity, r.below(20_000)), (SteelArea, steel_area), (OwnWeightMoment, r.below(1 << 34))]
-    }
-}
-
-/// Fields of the duct. At times it is long: with the segments below, its X comes up to 1.5 T and beyond. At times it has hardly any
-/// friction, or none: there the drop at the jack is steep in the friction, or the slip goes by the tendon's length.
-fn duct(r: &mut Random) -> [(Field, u64); 3] {
-    if r.one_in(3) {
-        [(Wobble, r.below(1000)), (Curvature, r.below(400_000)), (Segments, r.between(16, MOST_SEGMENTS))]
-    } else if r.one_in(8) {
-        [(Wobble, r.below(3)), (Curvature, r.below(3)), (Segments, r.between(1, 3))]
-    } else {
-        let segments = if r.one_in(8) { MOST_SEGMENTS } else { r.below(8) };
-        [(Wobble, r.below(400)), (Curvature, r.below(250_000)), (Segments, segments)]
-    }
-}
-
-/// The head of a member that is often accepted.
-fn head(r: &mut Random) -> Vec<u64> {
-    let kind = if r.one_in(3) { PRETENSIONED } else { POST_TENSIONED };
-    let moist = r.one_in(2);
-    let earliest = if moist { LEAST_TRANSFER_IF_MOIST } else { LEAST_TRANSFER };
-    let latest_curing = if moist { MOST_CURING_IF_MOIST } else { MOST_TRANSFER };
-    let transfer = r.between(earliest, if kind == PRETENSIONED { latest_curing } else { MOST_TRANSFER });
-    let strength = r.between(100_000, MOST_STRENGTH);
-    // In hundredths of it; at times so few that 7 comes at an age, also where a gain would follow.
-    let jacked = if r.one_in(8) { r.between(2, 30) } else { r.between(30, 80) };
-    let area = r.between(1 << 14, 1 << 22);
-    let mut fields = vec![0; HEAD_FIELDS];
-    let mut set = |field: Field, number: u64| fields[field.at()] = number;
-    set(Kind, kind);
-    set(Steel, r.between(FIRST_CODE, LAST_CODE));
-    set(UltimateStrength, strength);
-    set(JackingStress, strength * jacked / 100);
-    set(DeflectorLoss, if kind == PRETENSIONED && r.one_in(3) { r.below(5000) } else { 0 });
-    set(Slip, r.pick(&[0, 0, 1, 64, 256, 384, 384, 1024, 2048]));
-    set(Length, r.between(20_480, 2_097_152));
-    set(Cure, if moist { MOIST } else { ACCELERATED });
-    set(Concrete, r.between(FIRST_CODE, LAST_CODE));
-    set(Es, r.between(24_000_000, 30_000_000));
-    set(Eci, r.between(2_000_000, 8_000_000));
-    set(Ec, r.between(2_000_000, 8_000_000));
-    set(VolumeToSurface, r.between(1024, 10_240));
-    set(Area, area);
-    section(r, area).into_iter().for_each(|(field, number)| set(field, number));
-    set(EndOfCuring, if kind == PRETENSIONED { transfer } else { r.between(0, transfer.min(MOST_CURING_IF_MOIST)) });
-    set(Transfer, transfer);
-    duct(r).into_iter().for_each(|(field, number)| set(field, number));
-    if kind == PRETENSIONED || r.one_in(6) {
-        set(Segments, 0);
-    }
-    set(Ages, ages(r));
-    fields
-}
-
-/// How many ages a member has. At times they are too many, each with its line.
-fn ages(r: &mut Random) -> u64 {
-    match r.below(32) {
-        0..=3 => MOST_AGES,
-        4 => r.between(MOST_AGES + 1, OLDER_MOST_AGES),
-        _ => r.between(LEAST_AGES, 12),
-    }
-}
-
-/// The fields of a member that is often accepted.
-fn member(r: &mut Random) -> Vec<u64> {
-    let mut f = head(r);
-    let (segments, ages) = (f[Segments.at()], f[Ages.at()]);
-    for _ in 0..segments {
-        f.extend(match r.pick(&[STRAIGHT, PARABOLA, BEND]) {
-            STRAIGHT if r.one_in(8) => segment(STRAIGHT, r.between(1, 8), 0),
-            STRAIGHT => segment(STRAIGHT, r.between(1, 65_536), 0),
-            PARABOLA => segment(PARABOLA, r.between(8192, 131_072), r.below(2048)),
-            _ => segment(BEND, 0, r.below(200)),
-        });
-    }
-    let mut hour = f[Transfer.at()];
-    let to_the_end = r.one_in(2);
-    let heaviest = 1 << r.between(16, 38);
-    for later in (0..ages).rev() {
-        let left = LIFE - hour - (later + 1);
-        hour += 1 + r.below((left / (later + 1)).max(1));
-        if to_the_end && later == 0 {
-            hour = LIFE;
-        }
-        f.extend(age(hour, if r.one_in(3) { r.below(heaviest) } else { 0 }));
-    }
-    f
-}
-
-/// The losses of a member, with room for every row.
-fn losses(paper: &Paper, member: &Member) -> Answer {
-    let room = ROW_NUMBERS.max(SCRATCH_NUMBERS_OF_AGE) * MOST_AGES as usize;
-    paper.run(member, room, room)
 }
 
 /// Makes the tendon as long as the slip reaches, or a tick shorter or longer, if document 02's W5 rules at the member's slip.
@@ -205,35 +59,6 @@ fn disturb(r: &mut Random, paper: &Paper, edges: &[(Field, u64, u64)], f: &mut [
             f[field.at()] = r.pick(&[low, high, high + 1, low.saturating_sub(1)]);
         }
     }
-}
-
-/// A field's columns: digits behind spaces, or, rarely, behind zeros; the slip is blank at times.
-fn columns(r: &mut Random, at: usize, number: u64) -> String {
-    if at == Slip.at() && r.one_in(20) {
-        return " ".repeat(COLUMNS);
-    }
-    if r.one_in(50) { format!("{number:0COLUMNS$}") } else { format!("{number:COLUMNS$}") }
-}
-
-/// The fields in lines: those of the head, of as many segments as it says, and of ages as far as there are fields.
-fn lines_of(r: &mut Random, f: &[u64]) -> String {
-    let mut text = String::new();
-    let (mut at, mut line) = (0, 0);
-    let segments = f[Segments.at()].min(MOST_SEGMENTS + 6) as usize;
-    let head = head_lines();
-    while at < f.len() {
-        let count = match line {
-            _ if line < head.len() => head[line],
-            _ if line < head.len() + segments => SEGMENT_FIELDS,
-            _ => AGE_FIELDS,
-        };
-        let end = f.len().min(at + count);
-        (at..end).for_each(|i| text += &columns(r, i, f[i]));
-        text.push('\n');
-        at = end;
-        line += 1;
-    }
-    text
 }
 
 fn card_text(r: &mut Random, f: &[u64]) -> Vec<u8> {
@@ -415,14 +240,6 @@ impl AnswerCounts {
     }
 }
 
-/// Holds each kind's count of so many cases to the least that it has to be.
-fn hold_kinds(cases: usize, kinds: &[(&str, usize, usize)]) {
-    for &(kind, count, least) in kinds {
-        println!("{kind}: {count} of {cases}");
-        assert!(count >= least, "{kind}: {count} of {cases}");
-    }
-}
-
 /// How many cases gave each answer, and how many are of each kind below.
 #[derive(Default)]
 struct Tally {
@@ -520,8 +337,7 @@ fn lists() {
 
 /// What a card with these columns for its slip returns, and what it leaves in the buffers.
 fn run_with_slip(card: &[u8], slip: String, was: &Buffers) -> (u64, Buffers) {
-    let start = COLUMNS * Slip.at();
-    let card = [&card[..start], slip.as_bytes(), &card[start + COLUMNS..]].concat();
+    let card = with_columns(card, Slip, &slip);
     let mut now = was.clone();
     (stratelyn::run_card_bytes(&card, &mut now.report, &mut now.scratch, &mut now.reply), now)
 }
@@ -689,36 +505,13 @@ impl SheetTally {
     }
 }
 
-fn sheet_program() -> PathBuf {
-    let program = Path::new(env!("CARGO_MANIFEST_DIR")).join("../../target/bin/sheet");
-    assert!(program.is_file(), "there is no {}, which `rt check sheet` writes", program.display());
-    program
-}
-
-/// What a program prints for a card, if it ends well.
-fn printed(program: &Path, card: &[u8]) -> Option<String> {
-    let mut child = Command::new(program).stdin(Stdio::piped()).stdout(Stdio::piped()).spawn().expect("the program starts");
-    child.stdin.take().expect("its input").write_all(card).expect("it reads the card");
-    let output = child.wait_with_output().expect("it ends");
-    output.status.success().then(|| String::from_utf8(output.stdout).expect("it prints text"))
-}
-
 #[test]
 fn sheets() {
-    let (program, paper, edges) = (sheet_program(), Paper::new(), edges());
+    let (program, paper, edges) = (program("sheet"), Paper::new(), edges());
     let mut r = Random(0x5EED_0004_5EE7);
     let cases: Vec<SheetCase> = (0..SHEETS).map(|_| SheetCase::new(&mut r, &paper, &edges)).collect();
     let mut tally = SheetTally::default();
     cases.iter().for_each(|case| tally.count(&paper, case));
     tally.hold();
-    let compare = |first: usize| {
-        for (number, case) in cases.iter().enumerate().skip(first).step_by(SHEET_THREADS) {
-            assert_eq!(printed(&program, &case.card), Some(case.text()), "sheet {number}");
-        }
-    };
-    thread::scope(|scope| {
-        for first in 0..SHEET_THREADS {
-            scope.spawn(move || compare(first));
-        }
-    });
+    on_threads(&cases, |number, case| assert_eq!(printed(&program, &case.card), Some(case.text()), "sheet {number}"));
 }

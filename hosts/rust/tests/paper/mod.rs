@@ -230,7 +230,7 @@ impl Member {
     }
 
     /// The jacking stress in ticks.
-    fn jacked(&self) -> u128 {
+    pub fn jacked(&self) -> u128 {
         self.field(JackingStress) * TICKS
     }
 
@@ -261,6 +261,8 @@ pub type Reading = Result<Member, Refusal>;
 /// The losses before the ages and the stress after them; and creep, shrinkage, relaxation, stress and gain of an age.
 pub const BEFORE_NUMBERS: usize = 6;
 pub const ROW_NUMBERS: usize = 5;
+/// On the line that a report has for an age, its number and hour stand before these.
+pub const AGE_LINE_NUMBERS: usize = 2 + ROW_NUMBERS;
 const BEFORE_SLIP: usize = 1;
 const ROW_STRESS: usize = 3;
 const ROW_GAIN: usize = 4;
@@ -296,6 +298,13 @@ impl Run {
     /// Whether the slip takes stress at the section.
     pub fn slips_at_section(&self) -> bool {
         self.before[BEFORE_SLIP] > 0
+    }
+
+    /// What the report program prints for a member with this run: the losses before the ages and the stress after them, then each age's
+    /// number, hour and row.
+    pub fn report(&self, member: &Member) -> String {
+        let line = |age: usize| printed_line(&[&[age as u64 + 1, member.hour(age)], &self.rows[age][..]].concat());
+        printed_line(&self.before) + &(0..self.rows.len()).map(line).collect::<String>()
     }
 }
 
@@ -342,6 +351,13 @@ pub fn is_long(x: u128) -> bool {
 /// A line that a program prints: numbers in columns.
 pub fn printed_line(numbers: &[u64]) -> String {
     numbers.iter().map(|n| format!("{n:COLUMNS$}")).collect::<String>() + "\n"
+}
+
+/// The numbers of a line that a program prints.
+pub fn printed_numbers<const COUNT: usize>(line: &str) -> [u64; COUNT] {
+    let columns = (0..line.len()).step_by(COLUMNS).map(|at| &line[at..][..COLUMNS]);
+    let numbers: Vec<u64> = columns.map(|columns| columns.trim_start().parse().expect("a number")).collect();
+    numbers.try_into().expect("as many numbers")
 }
 
 // ---- the anchor set
@@ -675,6 +691,11 @@ impl Member {
         self.jacked() * friction_factor(x) / T
     }
 
+    /// The stress before slip behind the first so many segments.
+    pub fn stress_after_segments(&self, first: usize) -> u128 {
+        self.stress_left(self.x(first))
+    }
+
     /// In ticks of foot.
     fn path_length(&self) -> u128 {
         (0..self.segments()).map(|i| self.segment(i, OfSegment::Length)).sum()
@@ -702,9 +723,8 @@ pub struct Stretch {
 
 impl Stretch {
     fn new(member: &Member, segment: usize) -> Self {
-        let at_end = |first: usize| member.stress_left(member.x(first));
-        let length = INCHES_OF_FOOT * member.segment(segment, OfSegment::Length);
-        Stretch { at_ends: at_end(segment) + at_end(segment + 1), length }
+        let at_ends = member.stress_after_segments(segment) + member.stress_after_segments(segment + 1);
+        Stretch { at_ends, length: INCHES_OF_FOOT * member.segment(segment, OfSegment::Length) }
     }
 
     /// Those of a member's segments, if the duct's check lets its X pass.
