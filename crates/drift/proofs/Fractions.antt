@@ -5,8 +5,8 @@
 use mathlib.Core.Path.{_≡_, refl, ap}
 use mathlib.Core.Bool.{Bool, true, false, cond}
 use lib.Dec.{ltb}
-use mathlib.Core.List.{List, [], _∷_, _++_}
-use Prim.Native.Nat.{ℕ, zero, suc, _+_, _*_, _≤_, _<_}
+use mathlib.Core.List.{List, [], _∷_}
+use Prim.Native.Nat.{ℕ, suc, _+_, _*_, _≤_, _<_}
 use native.Mathlib.Nat.{le-refl, mul-le-mul-right}
 use native.Mathlib.Omega.{arith}
 use lib.ListN.{length, getD}
@@ -57,20 +57,24 @@ same-off {e} {x} {y} loss = constant-keeps-distance (larger x y) loss e x y (lar
 
 -- ---- a run by itself
 
+-- no stress of the core is above 0.80 F
+abbrev pub Lows : Quantities → Report → Type 0
+Lows q given = (place : ℕ) → place < stepsOf q → Low q (getD (coreStresses q given) place 0)
+
 abbrev slipped : Quantities → Choice → Fraction
 slipped q choice = afterTendonSlip choice q (stressAlong (choice .factor) q (length (q .path)))
 
 slipped-is : {q : Quantities} {given : Report} → AcceptedRun q given → (choice : Choice)
     → exactAfterSlip choice q (given .before) ≡ slipped q choice
-slipped-is run choice = rw (run .not-died) refl
+slipped-is run choice = rw (run .over-the-tendon) refl
 
 module _ {q : Quantities} {given : Report} (run : AcceptedRun q given) (choice : Choice) (admissible : Admissible q choice)
-    (lows : (place : ℕ) → place < stepsOf q → Low q (getD (coreStresses q given) place 0)) where
+    (lows : Lows q given) where
   few-count : (place : ℕ) → place < stepsOf q → counted q (given .before) place ≤ mostSteps
   few-count place h =
       let few = run .few-segments in
       let few-ages = run .few-ages in
-      rw (run .not-died) (either-most (ltb place (length (q .path))) (omega arith) (omega arith))
+      rw (run .over-the-tendon) (either-most (ltb place (length (q .path))) (omega arith) (omega arith))
 
   exact-in-room : InRoom (mostStressOf q) (exactStresses choice q (given .before))
   exact-in-room place h =
@@ -113,17 +117,7 @@ module _ (field : ℕ → ℕ) (path : List Segment) (ages : List Age) (a b : �
   same-steps = rw (same-early (kindOf (q .kind)), same-ages (q .ownWeightMoment) (q .transfer) ages)
 
   module _ {one other : Report} (run : AcceptedRun q one) (run′ : AcceptedRun p other) (admissible : Admissible q choice)
-      (one-low : (place : ℕ) → place < stepsOf q → Low q (getD (coreStresses q one) place 0))
-      (other-low : (place : ℕ) → place < stepsOf q → Low q (getD (coreStresses p other) place 0))
       (e : Fraction) (gauges : Within e (whole (jacked q)) (whole (jacked p))) where
-    admissible′ : Admissible p choice
-    admissible′ = record {
-      least = admissible .least;
-      most = admissible .most;
-      rises = admissible .rises;
-      factors = admissible .factors;
-    }
-
     along : (j : ℕ) → j ≤ length path → Within e (stressAlong (choice .factor) q j) (stressAlong (choice .factor) p j)
     along j h =
         let (least, most) = exponent-between q (run .facts .segments-fit) (run .few-segments) (run .facts .friction-most) j h in
@@ -136,11 +130,20 @@ module _ (field : ℕ → ℕ) (path : List Segment) (ages : List Age) (a b : �
         (afterDeflector choice p (exactAfterSlip choice p (other .before)))
     deflected-apart = rw (slipped-is run choice, slipped-is run′ choice) (same-off _ slipped-apart)
 
-    pub run-apart : Beside (Within e) (exactStresses choice q (one .before)) (exactStresses choice p (other .before))
-    run-apart =
+    admissible′ : Admissible p choice
+    admissible′ = record {
+      least = admissible .least;
+      most = admissible .most;
+      rises = admissible .rises;
+      factors = admissible .factors;
+    }
+
+    pub run-apart : Lows q one → Lows p other
+        → Beside (Within e) (exactStresses choice q (one .before)) (exactStresses choice p (other .before))
+    run-apart lows lows′ =
         rw (slipped-is run choice, slipped-is run′ choice)
         (beside-append (beside-each (stressAlong (choice .factor) q) (stressAlong (choice .factor) p) (length path) along)
         (a-step slipped-apart
         (rw same-steps
         (steps-apart (steps-keep-distance (run .facts) (admissible-logs admissible)) _ _
-        (rest-in-room run choice admissible one-low) (rw same-steps at (rest-in-room run′ choice admissible′ other-low)) slipped-apart))))
+        (rest-in-room run choice admissible lows) (rw same-steps at (rest-in-room run′ choice admissible′ lows′)) slipped-apart))))

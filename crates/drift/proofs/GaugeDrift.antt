@@ -1,151 +1,36 @@
--- The theorem `gauge-drift`: what two gauges differ by is carried through two runs, in ticks and in fractions, and is what the entries
--- return. Where the gauges do not differ the two runs are one; else they differ by a psi or more, which is what the walk in ticks asks for.
--- What was returned with the number of what is accepted is that of a run, and the promise says of which. Assumes nothing.
-use mathlib.Core.Path.{_≡_, refl, sym, ap, subst, _∙_}
-use Prim.Native.Nat.{ℕ, suc, _+_, _-_, _*_, _≤_, _<_}
-use native.Mathlib.Nat.{le-refl}
-use native.Mathlib.Decide.{decLe, decLt}
-use native.Mathlib.Omega.{arith}
+-- The theorem `gauge-drift`: the drift is carried through any two accepted runs of members that have all in common but the jacking stress,
+-- and these are the runs of which the entries return the numbers. What is returned with the number of what is accepted is a run's, and the
+-- promise says of which. Assumes nothing.
+use mathlib.Core.Path.{_≡_, refl, sym, ap, _∙_}
 use mathlib.Core.List.{List}
-use lib.ListN.{length, getD, drop}
-use Rattle.fraction.specs.Fraction.{Fraction, whole, _⊕_, _≼_, Within}
-use Rattle.fraction.proofs.Laws.{≼-trans, ≼-of-≈, whole-⊕}
-use Rattle.fraction.proofs.Floors.{whole-order}
-use Rattle.logarithm.proofs.Laws.{never-falls}
-use Rattle.ticks.specs.Ticks.{ticksPerUnit}
-use Rattle.exponential.specs.Factor.{powers}
-use Rattle.exponential.specs.Series.{sumTo}
-use Rattle.fields.specs.Quantities.{Quantities, Segment, Age, headFields, perSegment, quantitiesRead}
+use Prim.Native.Nat.{ℕ, _+_, _*_, _≤_, _<_}
+use native.Mathlib.Decide.{decLt}
+use native.Mathlib.Omega.{arith}
+use lib.ListN.{length, drop}
+use Rattle.fields.specs.declared.refusal.Reading.the-variants.{Fields}
 use Rattle.fields.specs.Limits.{mostSegments, mostAges}
 use Rattle.fields.specs.Outcomes.{OrRefusal, Gives, Refuses, Outcome}
+use Rattle.fields.specs.Quantities.{Quantities, headFields, perSegment, quantitiesRead}
 use Rattle.fields.specs.Refusals.{acceptanceNumber}
-use Rattle.fields.specs.declared.refusal.Reading.the-variants.{Fields}
 use Rattle.fields.proofs.Accepted.{Accepted}
 use Rattle.fields.proofs.Laws.{segments-length, ages-length}
 use Rattle.fields.proofs.Refusals.{refusal-number}
 use Rattle.card.proofs.Laws.{card-accepted}
 use Rattle.list.proofs.Laws.{list-accepted}
+use Rattle.numbers.specs.Numbers.{room}
 use Rattle.numbers.proofs.ListBytes.{bytes-accepted}
 use Rattle.checks.proofs.Reading.{of-read}
-use Rattle.member.specs.Constants.{jacked}
-use Rattle.member.specs.Member.{memberOf}
-use Rattle.stages.specs.Run.{Report, memberResult, resultOf, resultRead}
-use Rattle.tolerance.specs.Method.{Choice, exponentAlong, Admissible, tableChoice}
-use Rattle.tolerance.specs.Demand.{stepsOf, coreStresses, coreAfterDeflector, exactStresses}
-use Rattle.tolerance.proofs.Bounds.{Low}
+use Rattle.stages.specs.Run.{Report, resultOf, resultRead}
 use Rattle.entries.specs.declared.Answer.{Answer}
 use Rattle.entries.specs.Answers.{answerOf, answerNumber, Ran}
 use Rattle.entries.specs.Promise.{Promise}
-use Rattle.numbers.specs.Numbers.{room}
 use Rattle.stratelyn.specs.Hosts.{replyBytes, Hosted, Served}
-use Rattle.drift.specs.Drift.{jackedTo, TwoGauges, distance, driftOf, Carried, CarriedInFractions, Drift}
+use Rattle.drift.specs.Drift.{TwoGauges, Drift}
 use Rattle.drift.specs.Returned.{Input, card, list, bytes, read, ReadByTwoGauges, DriftReturned, GaugeDrift}
-use Rattle.drift.proofs.Beside.{Beside, beside-at, beside-lengths}
 use Rattle.drift.proofs.Runs.{AcceptedRun, accepted-run}
-use Rattle.drift.proofs.Kept.{Apart, run-apart, deflected}
-use Rattle.drift.proofs.Fractions.{deflected-apart}
-use Rattle.drift.proofs.Fractions.{run-apart as exact-apart}
-
--- the core's list has a stress for each step
-count : {q : Quantities} {given : Report} → AcceptedRun q given → length (coreStresses q given) ≡ stepsOf q
-count run = run .demand .narrow _ (run .demand .some-factors) .core-count
-
-whole-apart : (x y e : ℕ) → distance x y ≤ e → Within (whole e) (whole x) (whole y)
-whole-apart x y e near = record {
-  above = ≼-trans (whole-order (omega arith)) (≼-of-≈ (whole-⊕ y e));
-  below = ≼-trans (whole-order (omega arith)) (≼-of-≈ (whole-⊕ x e));
-}
+use Rattle.drift.proofs.TwoRuns.{drift}
 
 -- ---- two runs
-
-module _ (field : ℕ → ℕ) (path : List Segment) (ages : List Age) (a b : ℕ) where
-  abbrev q : Quantities
-  q = jackedTo a field path ages
-
-  abbrev p : Quantities
-  p = jackedTo b field path ages
-
-  -- d, in ticks
-  abbrev e : ℕ
-  e = distance a b * ticksPerUnit
-
-  gauges-apart : (most : ℕ) → e ≤ most → distance (jacked q) (jacked p) ≤ most
-  gauges-apart most h = omega arith
-
-  module _ {one other : Report} (run : AcceptedRun q one) (run′ : AcceptedRun p other) where
-    -- where the gauges agree the two runs are one
-    same-run : a ≡ b → one ≡ other
-    same-run same = cc
-
-    -- so that of any stress of theirs it may be taken that they differ, by a psi or more
-    within-drift : (stress : ℕ → Report → ℕ) → (ticksPerUnit ≤ e → distance (stress a one) (stress b other) ≤ e)
-        → distance (stress a one) (stress b other) ≤ e
-    within-drift stress differ = by (decLe 1 (distance a b))
-      where
-        by : Dec (1 ≤ distance a b) → distance (stress a one) (stress b other) ≤ e
-        by (yes h) = differ (omega arith)
-        by (no h) = let same : a ≡ b = omega arith in rw (same, same-run same) (omega arith)
-
-    walk : (most : ℕ) → ticksPerUnit ≤ most → e ≤ most → Beside (Apart q most) (coreStresses q one) (coreStresses p other)
-    walk most large h = run-apart field path ages a b run run′ most large (gauges-apart most h)
-
-    at : (most : ℕ) → ticksPerUnit ≤ most → e ≤ most → (place : ℕ) → place < stepsOf q
-        → Apart q most (getD (coreStresses q one) place 0) (getD (coreStresses p other) place 0)
-    at most large h place within = beside-at (walk most large h) place 0 (omega (arith, count run))
-
-    step-kept : (place : ℕ) → place < stepsOf q → distance (getD (coreStresses q one) place 0) (getD (coreStresses p other) place 0) ≤ e
-    step-kept place within =
-        within-drift (λ stress given. getD (coreStresses (jackedTo stress field path ages) given) place 0)
-        (λ large. at e large (le-refl e) place within .apart)
-
-    deflector-kept : distance (coreAfterDeflector q (one .before)) (coreAfterDeflector p (other .before)) ≤ e
-    deflector-kept =
-        within-drift (λ stress given. coreAfterDeflector (jackedTo stress field path ages) (given .before))
-        (λ large. deflected field path ages a b run run′ e large (gauges-apart e (le-refl e)) .apart)
-
-    carried : (perStep : ℕ) → Carried perStep q p one other
-    carried perStep = record {
-      one-count = count run;
-      other-count = count run′;
-      steps = λ place within. omega (arith, step-kept place within);
-      deflector = omega (arith, deflector-kept);
-    }
-
-    -- by a psi more than the drift, which is a psi whether the gauges differ or not
-    lows : (place : ℕ) → place < stepsOf q → Apart q (e + ticksPerUnit) (getD (coreStresses q one) place 0) (getD (coreStresses p other) place 0)
-    lows = at (e + ticksPerUnit) (omega arith) (omega arith)
-
-    module _ (choice : Choice) (admissible : Admissible q choice) where
-      exact-gauges : Within (whole e) (whole (jacked q)) (whole (jacked p))
-      exact-gauges = whole-apart (jacked q) (jacked p) e (gauges-apart e (le-refl e))
-
-      exact-walk : Beside (Within (whole e)) (exactStresses choice q (one .before)) (exactStresses choice p (other .before))
-      exact-walk =
-          exact-apart field path ages a b choice run run′ admissible (λ place within. lows place within .one-low)
-          (λ place within. lows place within .other-low) (whole e) exact-gauges
-
-      in-fractions : CarriedInFractions choice q p one other
-      in-fractions =
-          let exact-count = run .demand .wide choice admissible .exact-count in
-          record {
-            one-count = exact-count;
-            other-count = beside-lengths exact-walk ∙ exact-count;
-            steps = λ place within. beside-at exact-walk place (whole 0) (omega (arith, exact-count));
-            deflector =
-                deflected-apart field path ages a b choice run run′ admissible (λ place within. lows place within .one-low)
-                (λ place within. lows place within .other-low) (whole e) exact-gauges;
-          }
-
-    some-choice : Admissible q (tableChoice (λ j. sumTo powers (exponentAlong q j)))
-    some-choice = record {
-      least = λ hour some life. whole-order (omega arith);
-      most = λ hour some life. whole-order (omega arith);
-      rises = λ hour later some le life. whole-order (never-falls hour later le);
-      factors = run .demand .some-factors;
-    }
-
-    drift : Drift q p one other
-    drift = record { asked = carried 2; kept = carried 0; in-fractions = in-fractions; some-choice = some-choice }
 
 drift-of : {q p : Quantities} {one other : Report} → TwoGauges q p → AcceptedRun q one → AcceptedRun p other → Drift q p one other
 drift-of {q} {p} gauges run run′ =

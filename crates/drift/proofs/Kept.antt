@@ -3,8 +3,8 @@
 -- higher stress comes down more; and by less than twice the rise, so that even where the two change places they lie no further apart.
 -- What roundings add is less than what is left of a psi: two gauges that differ at all differ by as much. Assumes nothing.
 use mathlib.Core.Path.{_≡_, refl, subst}
-use mathlib.Core.List.{List, [], _∷_, _++_}
-use Prim.Native.Nat.{ℕ, _+_, _-_, _*_, _≤_}
+use mathlib.Core.List.{List}
+use Prim.Native.Nat.{ℕ, _+_, _-_, _≤_}
 use native.Mathlib.Decide.{decLe}
 use native.Mathlib.Omega.{arith}
 use lib.Dec.{lit≤}
@@ -20,11 +20,9 @@ use Rattle.formulas.proofs.Laws.{stress-left-most}
 use Rattle.member.specs.Constants.{jacked, stressAlong, pathFriction}
 use Rattle.member.specs.Member.{memberOf, kindOf, steelOf, kappaOf, creepOf}
 use Rattle.member.specs.Facts.{RisingFrom, rises, Facts}
-use Rattle.stages.specs.declared.ends.End.{End}
 use Rattle.stages.specs.declared.intervals.Row.{Row}
 use Rattle.stages.specs.Run.{earlyRelaxation, earlyRelaxationOf, shorteningOf, endAt, lossesBetween, together, Report}
-use Rattle.tolerance.specs.Method.{tableChoice}
-use Rattle.tolerance.specs.Demand.{each, coreAfterSlip, coreAfterDeflector, coreAfterEarly, coreAfterPath, stressesOf, coreStresses}
+use Rattle.tolerance.specs.Demand.{coreAfterSlip, coreAfterDeflector, coreAfterEarly, stressesOf, coreStresses}
 use Rattle.tolerance.proofs.Bounds.{Low, low, creep-top}
 use Rattle.tolerance.proofs.Ends.{between, before-transfer}
 use Rattle.tolerance.proofs.Logarithms.{mostRise, table-logs}

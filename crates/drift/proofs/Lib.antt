@@ -4,4 +4,5 @@ pub mod Growth
 pub mod Runs
 pub mod Kept
 pub mod Fractions
+pub mod TwoRuns
 pub mod GaugeDrift

@@ -18,11 +18,10 @@ use Rattle.member.specs.Member.{memberOf, frictionOf, checkedOf}
 use Rattle.member.specs.Facts.{Facts}
 use Rattle.member.proofs.Laws.{accepted}
 use Rattle.stages.specs.Run.{earlyRelaxationOf, shorteningOf, Report, memberResult, resultOf}
-use Rattle.tolerance.specs.Demand.{coreAfterDeflector, coreAfterEarly, Demand3}
-use Rattle.tolerance.specs.Demand.{slipDiesOut as slipDied}
+use Rattle.tolerance.specs.Demand.{slipDiesOut, coreAfterDeflector, coreAfterEarly, Demand3}
 use Rattle.tolerance.proofs.Demand3.{demand-3}
 use Rattle.tolerance.proofs.Run.{Began, AgesRun, run, slips-over-the-tendon}
-use Rattle.drift.specs.Drift.{slipDiesOut}
+use Rattle.drift.specs.Drift.{slipDiesOutIn}
 
 pub record AcceptedRun (q : Quantities) (given : Report) : Type 0 where
   pub report : ℕ
@@ -33,11 +32,11 @@ pub record AcceptedRun (q : Quantities) (given : Report) : Type 0 where
   pub result-is : memberResult (memberOf q) (q .ages) ≡ Gives given
   pub began : Began q (given .before)
   pub ran : AgesRun q (q .ownWeightMoment) (q .transfer) (given .before .stress) (q .ages) (given .rows) (given .last)
-  pub not-died : slipDied q (given .before) ≡ false
+  pub over-the-tendon : slipDiesOut q (given .before) ≡ false
   pub demand : Demand3 q given
 
 pub accepted-run : (q : Quantities) (report scratch : ℕ) {given : Report} → length (q .path) ≤ mostSegments
-    → length (q .ages) ≤ mostAges → slipDiesOut q ≡ false → resultOf q report scratch ≡ Gives given → AcceptedRun q given
+    → length (q .ages) ≤ mostAges → slipDiesOutIn q ≡ false → resultOf q report scratch ≡ Gives given → AcceptedRun q given
 accepted-run q report scratch {given} few-segments few-ages over result =
     let checked = through (checkedOf q report scratch) (λ m. memberResult m (q .ages)) result in
     let known = accepted q report scratch (checked .given-is) in
@@ -52,7 +51,7 @@ accepted-run q report scratch {given} few-segments few-ages over result =
       result-is = result-is;
       began = began;
       ran = ran;
-      not-died = rw (began .friction) over;
+      over-the-tendon = rw (began .friction) over;
       demand = demand-3 q report scratch few-segments few-ages (known .facts) given result-is;
     }
 
@@ -69,7 +68,7 @@ module _ {q : Quantities} {given : Report} (accepted : AcceptedRun q given) wher
       (omega (arith, began .friction, stress-left-most (jacked q) (frictionOf q)))
 
   pub slip-is : given .before .slip ≡ slipLoss (q .Es) (q .slip) (q .tendonLength)
-  slip-is = slips-over-the-tendon began (accepted .not-died)
+  slip-is = slips-over-the-tendon began (accepted .over-the-tendon)
 
   pub early-fits : earlyRelaxationOf (memberOf q) (coreAfterDeflector q (given .before)) ≤ coreAfterDeflector q (given .before)
   early-fits = omega (arith, began .early, began .closes)

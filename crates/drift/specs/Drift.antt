@@ -27,9 +27,9 @@ allBut one value field number = cond (eqb number one) value (field number)
 abbrev pub jackedTo : ℕ → (ℕ → ℕ) → List Segment → List Age → Quantities
 jackedTo stress field path ages = quantitiesBy (allBut (fieldNumber .jackingStress) stress field) path ages
 
--- whether slip dies out along the path, by the friction that the core works out: "Cards whose slip follows W5 are left out"
-abbrev pub slipDiesOut : Quantities → Bool
-slipDiesOut q = diesOut (frictionLoss (jacked q) (frictionOf q)) (pathLengthOf q)
+-- whether a member's slip dies out along its path, by the core's own friction: "Cards whose slip follows W5 are left out"
+abbrev pub slipDiesOutIn : Quantities → Bool
+slipDiesOutIn q = diesOut (frictionLoss (jacked q) (frictionOf q)) (pathLengthOf q)
 
 -- two members that have all in common but their jacking stress, and whose slip goes over the tendon
 pub record TwoGauges (q p : Quantities) : Type 0 where
@@ -38,8 +38,8 @@ pub record TwoGauges (q p : Quantities) : Type 0 where
   pub ages : List Age
   pub one-is : q ≡ jackedTo (q .jackingStress) field path ages
   pub other-is : p ≡ jackedTo (p .jackingStress) field path ages
-  pub one-over-the-tendon : slipDiesOut q ≡ false
-  pub other-over-the-tendon : slipDiesOut p ≡ false
+  pub one-over-the-tendon : slipDiesOutIn q ≡ false
+  pub other-over-the-tendon : slipDiesOutIn p ≡ false
 
 -- how far apart two numbers are
 abbrev pub distance : ℕ → ℕ → ℕ
@@ -51,8 +51,12 @@ driftOf q p = distance (q .jackingStress) (p .jackingStress)
 
 -- ---- "After the same step"
 
--- Two lists with a stress for each step. After each step the two stresses of the core differ by at most the drift and so many psi more
--- "for each step done", the first step being 1; and what is allowed after slip is allowed after the deflector loss, which is no step.
+-- "2 psi for each step done"
+abbrev pub psiPerStep : ℕ
+psiPerStep = 2
+
+-- Two lists with a stress for each step. After each step the two stresses of the core differ by at most the drift and so many psi for each
+-- step done, the first being 1; and what is allowed after slip is allowed after the deflector loss, which is no step.
 pub record Carried (perStep : ℕ) (q p : Quantities) (one other : Report) : Type 0 where
   pub one-count : length (coreStresses q one) ≡ stepsOf q
   pub other-count : length (coreStresses p other) ≡ stepsOf q
@@ -76,10 +80,10 @@ pub record CarriedInFractions (choice : Choice) (q p : Quantities) (one other : 
 -- one statement over the two whole runs
 pub record Drift (q p : Quantities) (one other : Report) : Type 0 where
   -- "After the same step the two stresses must differ by no more than d plus 2 psi for each step done."
-  pub asked : Carried 2 q p one other
-  -- better than asked: no step adds anything
+  pub asked : Carried psiPerStep q p one other
+  -- better than asked: d itself, no step adds anything
   pub kept : Carried 0 q p one other
-  -- and so it is in fractions, whatever choice is admissible; that is the same for both members
+  -- and so it is in fractions, whatever choice is admissible, which is the same for both members
   pub in-fractions : (choice : Choice) → Admissible q choice → CarriedInFractions choice q p one other
-  -- there is such a choice: the core's own logarithms, and the sums up to the 15th power
+  -- there is such a choice: the core's own logarithms, and the sums up to the 15th power, next to those up to the 16th
   pub some-choice : Admissible q (tableChoice (λ j. sumTo powers (exponentAlong q j)))

@@ -16,7 +16,7 @@ use Rattle.stages.specs.Run.{Report, resultOf}
 use Rattle.entries.specs.declared.Answer.{Answer}
 use Rattle.entries.specs.Answers.{answerNumber, Ran}
 use Rattle.entries.specs.Promise.{Promise}
-use Rattle.stratelyn.specs.Hosts.{replyBytes, Hosted, Served}
+use Rattle.stratelyn.specs.Hosts.{Hosted, Served}
 use Rattle.drift.specs.Drift.{TwoGauges, Drift}
 
 -- a member comes as a card, as a list of doubles, or as a list in a host's bytes
