@@ -577,9 +577,19 @@ def too_many_ages():
     yield "%d ages, a line more" % MOST_AGES, card(POST, (), over, ages=MOST_AGES)
 
 
+def gauges_apart():
+    """A psi at the jack that makes two ticks of friction of one, where slip along the path is steep in it."""
+    path, one_tick = [shortest_straight(1, 1)], T // TICKS
+    for stress in (one_tick, one_tick + 1):
+        base = POST._replace(jacking_stress=stress, slip=16, length=most_of("length"), wobble=1, steel_area=1)
+        label = "%d psi at the jack, friction %d along a path of %d ticks"
+        yield label % (stress, friction_loss(base, path), path_length(path)), card(base, path)
+
+
 PARTS = (
     ranges, counts, codes, segments, moments, hours, duct, section_and_creep, stress, long_cards, shape, gains, blank_slips, long_ducts,
     anchored_girder, old_slips, whole_root, path_lengths, tick_of_friction, affected_lengths, refusals_at_slip, too_many_ages,
+    gauges_apart,
 )
 
 

@@ -18,6 +18,9 @@ use std::path::Path;
 /// Pairs that are compared, a process for each card.
 const PAIRS: usize = 20_000;
 
+/// Members that are tried for a pair at the most; most of them make one within ten.
+const MOST_TRIES: usize = 1000;
+
 /// "2 psi for each step done", of document 02's W8.
 const PSI_OF_STEP: u64 = 2;
 
@@ -206,11 +209,7 @@ struct Distance {
 
 impl Pair {
     fn new(r: &mut Random, paper: &Paper) -> Self {
-        loop {
-            if let Some(pair) = Pair::tried(r, paper) {
-                return pair;
-            }
-        }
+        (0..MOST_TRIES).find_map(|_| Pair::tried(r, paper)).expect("one of so many members makes a pair")
     }
 
     fn tried(r: &mut Random, paper: &Paper) -> Option<Self> {
