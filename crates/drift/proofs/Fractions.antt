@@ -4,11 +4,11 @@
 -- from demand 3, by which it lies near the core's, and that is at most 0.80 F. Assumes nothing.
 use mathlib.Core.Path.{_≡_, refl, ap}
 use mathlib.Core.Bool.{Bool, true, false, cond}
-use lib.Dec.{ltb}
 use mathlib.Core.List.{List, [], _∷_}
 use Prim.Native.Nat.{ℕ, suc, _+_, _*_, _≤_, _<_}
 use native.Mathlib.Nat.{le-refl, mul-le-mul-right}
 use native.Mathlib.Omega.{arith}
+use lib.Dec.{ltb}
 use lib.ListN.{length, getD}
 use Rattle.fraction.specs.Fraction.{Fraction, whole, _⊖_, _≼_, larger, Within}
 use Rattle.fraction.proofs.Laws.{larger-left, larger-right}
@@ -19,8 +19,9 @@ use Rattle.coefficient.specs.declared.codes.Kind.the-variants.{Pretensioned, Po
 use Rattle.member.specs.Constants.{jacked}
 use Rattle.member.specs.Member.{kindOf}
 use Rattle.stages.specs.Run.{Report}
-use Rattle.tolerance.specs.Method.{Choice, Admissible, stressAlong, afterTendonSlip, afterDeflector, earlyRelaxation, afterAge, endAt, ageSteps, stepsAfterSlip}
-use Rattle.tolerance.specs.Demand.{each, stepsOf, coreStresses, exactAfterSlip, exactStresses, stressesBy, counted, wideStep}
+use Rattle.tolerance.specs.Method.{Choice, Admissible, stressAlong, afterTendonSlip, afterDeflector, earlyRelaxation, afterAge, endAt}
+use Rattle.tolerance.specs.Method.{ageSteps, stepsAfterSlip}
+use Rattle.tolerance.specs.Demand.{stepsOf, coreStresses, exactAfterSlip, exactStresses, stressesBy, counted, wideStep}
 use Rattle.tolerance.proofs.Allowance.{mostSteps}
 use Rattle.tolerance.proofs.Bounds.{Low}
 use Rattle.tolerance.proofs.Chains.{each-length-then, each-then}

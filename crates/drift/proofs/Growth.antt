@@ -21,11 +21,15 @@ use Rattle.tolerance.proofs.Concrete.{highestStress}
 use Rattle.tolerance.proofs.Logarithms.{mostRise}
 use Rattle.tolerance.proofs.Relaxation.{lowestYield, leastDivisor, mostRatio, mostFactor, mostInner}
 
+-- growth is counted in sixteenths of the rise; these are the whole of it
+abbrev pub wholeRise : ℕ
+wholeRise = 16
+
 -- a loss that is `low` at one stress and `high` at another that lies `rise` ticks above: it does not fall, and it grows by at most so many
 -- sixteenths of the rise, and a rounding
 pub record Grows (sixteenths rounding rise low high : ℕ) : Type 0 where
   pub least : low ≤ high
-  pub most : 16 * high ≤ 16 * low + sixteenths * rise + 16 * rounding
+  pub most : wholeRise * high ≤ wholeRise * low + sixteenths * rise + wholeRise * rounding
 
 -- ---- quotients
 
@@ -37,7 +41,7 @@ module _ (D : ℕ) (some : 0 < D) where
   quotient-most a n {b} h =
       let below : b / D < a / D + n + 1 = div-lt-iff-lt-mul some .1 (omega (arith, lt-mul-div-succ a some)) in omega arith
 
-  quotient-grows : (rise rounding : ℕ) {a b : ℕ} → a ≤ b → b ≤ a + (rise + rounding) * D → Grows 16 rounding rise (a / D) (b / D)
+  quotient-grows : (rise rounding : ℕ) {a b : ℕ} → a ≤ b → b ≤ a + (rise + rounding) * D → Grows wholeRise rounding rise (a / D) (b / D)
   quotient-grows rise rounding {a} least most =
       let quotient = quotient-most a (rise + rounding) most in record { least = quotient-least least; most = omega arith }
 
@@ -51,7 +55,7 @@ module _ (D : ℕ) (some : 0 < D) where
 
 -- ---- friction
 
-pub left-grows : (X y rise : ℕ) → Grows 16 0 rise (stressLeft y X) (stressLeft (y + rise) X)
+pub left-grows : (X y rise : ℕ) → Grows wholeRise 0 rise (stressLeft y X) (stressLeft (y + rise) X)
 left-grows X y rise = quotient-grows T (lit< tt) rise 0 (omega arith) (omega (arith, mul-le-mul-left rise (factor-most X)))
 
 -- ---- creep and shortening
@@ -68,7 +72,7 @@ module _ (kappa g y rise : ℕ) where
 
   -- m/D times the concrete's stress: m·κ/(D·2^32), its slope, is at most 1, and m/D times a tick at most the rounding
   multiple-grows : (m D rounding : ℕ) → 0 < D → m * kappa ≤ D * kappaUnit → m ≤ rounding * D
-      → Grows 16 rounding rise (m * concreteStress y kappa g / D) (m * concreteStress (y + rise) kappa g / D)
+      → Grows wholeRise rounding rise (m * concreteStress y kappa g / D) (m * concreteStress (y + rise) kappa g / D)
   multiple-grows m D rounding some slope tick =
       quotient-grows D some rise rounding (mul-le-mul-left m concrete-least)
       (omega (arith, mul-le-mul-left m concrete-most, slope-most m D slope))
@@ -78,7 +82,7 @@ abbrev pub creepRounding : ℕ
 creepRounding = mostCreep / T + 1
 
 pub creep-grows : (wholeCreep share kappa g y rise : ℕ) → share ≤ T → wholeCreep ≤ mostCreep → wholeCreep * kappa ≤ mostCreepOfKappa
-    → Grows 16 creepRounding rise (creepLoss wholeCreep share (concreteStress y kappa g))
+    → Grows wholeRise creepRounding rise (creepLoss wholeCreep share (concreteStress y kappa g))
     (creepLoss wholeCreep share (concreteStress (y + rise) kappa g))
 creep-grows wholeCreep share kappa g y rise share-most creep-most slope =
     let done : wholeCreep * share / T ≤ wholeCreep = div-le-of-le-mul T (omega (arith, mul-le-mul-left wholeCreep share-most)) in
@@ -90,7 +94,7 @@ abbrev pub shorteningRounding : ℕ
 shorteningRounding = range .Es .high / range .Eci .low
 
 pub shortening-grows : (es eci kappa g y rise : ℕ) → es ≤ range .Es .high → range .Eci .low ≤ eci
-    → Grows 16 shorteningRounding rise (shorteningLoss es eci kappa (concreteStress y kappa g))
+    → Grows wholeRise shorteningRounding rise (shorteningLoss es eci kappa (concreteStress y kappa g))
     (shorteningLoss es eci kappa (concreteStress (y + rise) kappa g))
 shortening-grows es eci kappa g y rise es-most eci-least =
     multiple-grows kappa g y rise es (eci + es * kappa / kappaUnit) shorteningRounding (omega arith) (omega arith) (omega arith)
@@ -188,7 +192,7 @@ grow-together one other = omega arith
 
 -- of creep and relaxation, which a step takes together
 abbrev pub mostSixteenths : ℕ
-mostSixteenths = 16 + relaxationSixteenths
+mostSixteenths = wholeRise + relaxationSixteenths
 
 abbrev pub mostRounding : ℕ
 mostRounding = creepRounding + relaxationRounding

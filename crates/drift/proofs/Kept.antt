@@ -28,10 +28,12 @@ use Rattle.tolerance.proofs.Ends.{between, before-transfer}
 use Rattle.tolerance.proofs.Logarithms.{mostRise, table-logs}
 use Rattle.tolerance.proofs.Run.{AgesRun, no-age, an-age, stressTo}
 use Rattle.drift.specs.Drift.{jackedTo, distance}
-use Rattle.drift.proofs.Runs.{AcceptedRun, friction-leaves, slip-is, early-fits, shortening-fits, shortening-leaves, not-above-jacked}
+use Rattle.drift.proofs.Runs.{AcceptedRun, friction-leaves, slip-is, early-fits, shortening-fits, shortening-leaves}
+use Rattle.drift.proofs.Runs.{not-above-jacked}
 use Rattle.drift.proofs.Beside.{Beside, no-step, a-step, beside-append, beside-each}
-use Rattle.drift.proofs.Growth.{Grows, left-grows, creep-grows, shortening-grows, relaxation-grows, stays, grow-together}
-use Rattle.drift.proofs.Growth.{keeps-apart, mostSixteenths, mostRounding, relaxationSixteenths, relaxationRounding, shorteningRounding}
+use Rattle.drift.proofs.Growth.{wholeRise, Grows, left-grows, creep-grows, shorteningRounding, shortening-grows}
+use Rattle.drift.proofs.Growth.{relaxationSixteenths, relaxationRounding, relaxation-grows, stays, grow-together}
+use Rattle.drift.proofs.Growth.{mostSixteenths, mostRounding, keeps-apart}
 
 -- ---- a step, of two stresses in either order
 
@@ -78,7 +80,8 @@ loss-apart q loss growing slope rounding e large =
 
 module _ {q : Quantities} {report scratch : ℕ} (facts : Facts q report scratch) where
   relaxation-growing : (logarithms : ℕ) → logarithms ≤ mostRise
-      → Growing q relaxationSixteenths relaxationRounding (λ stress. relaxationLoss (steelOf (q .steel)) (q .ultimateStrength) stress logarithms)
+      → Growing q relaxationSixteenths relaxationRounding
+      (λ stress. relaxationLoss (steelOf (q .steel)) (q .ultimateStrength) stress logarithms)
   relaxation-growing logarithms most y rise top =
       relaxation-grows (steelOf (q .steel)) (q .ultimateStrength) logarithms y rise (facts .head .ultimate-least)
       (facts .head .ultimate-most) most top
@@ -90,7 +93,7 @@ module _ {q : Quantities} {report scratch : ℕ} (facts : Facts q report scratch
       relaxation-growing _ (omega (arith, rise .table-top))
   early-growing PostTensioned = λ y rise top. omega arith
 
-  shortening-growing : Growing q 16 shorteningRounding (shorteningOf (memberOf q))
+  shortening-growing : Growing q wholeRise shorteningRounding (shorteningOf (memberOf q))
   unfolding memberOf
   shortening-growing y rise top =
       shortening-grows (q .Es) (q .Eci) (kappaOf q) _ y rise (facts .head .es-most) (facts .head .eci-least)

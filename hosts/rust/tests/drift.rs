@@ -18,7 +18,7 @@ use std::path::Path;
 /// Pairs that are compared, a process for each card.
 const PAIRS: usize = 20_000;
 
-/// Members that are tried for a pair at the most; most of them make one within ten.
+/// Members that are tried for a pair at the most.
 const MOST_TRIES: usize = 1000;
 
 /// "2 psi for each step done", of document 02's W8.
