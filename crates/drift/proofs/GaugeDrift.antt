@@ -1,7 +1,8 @@
--- The theorem `gauge-drift`: the drift is carried through any two accepted runs of members that have all in common but the jacking stress,
--- and these are the runs of which the entries return the numbers. What is returned with the number of what is accepted is a run's, and the
--- promise says of which. Assumes nothing.
-use mathlib.Core.Path.{_≡_, refl, sym, ap, _∙_}
+-- The theorem `gauge-drift`. What keeps the promise and has the number of what is accepted is what a run gave, since a refusal has another
+-- number; and the runs of two inputs that are read as two such members are the two runs of `TwoRuns`, as the readers range the counts.
+-- Assumes nothing.
+use mathlib.Core.Path.{_≡_, refl, sym, _∙_}
+use mathlib.Core.Bool.{false}
 use mathlib.Core.List.{List}
 use Prim.Native.Nat.{ℕ, _+_, _*_, _≤_, _<_}
 use native.Mathlib.Decide.{decLt}
@@ -9,7 +10,7 @@ use native.Mathlib.Omega.{arith}
 use lib.ListN.{length, drop}
 use Rattle.fields.specs.declared.refusal.Reading.the-variants.{Fields}
 use Rattle.fields.specs.Limits.{mostSegments, mostAges}
-use Rattle.fields.specs.Outcomes.{OrRefusal, Gives, Refuses, Outcome}
+use Rattle.fields.specs.Outcomes.{OrRefusal, Gives, Refuses}
 use Rattle.fields.specs.Quantities.{Quantities, headFields, perSegment, quantitiesRead}
 use Rattle.fields.specs.Refusals.{acceptanceNumber}
 use Rattle.fields.proofs.Accepted.{Accepted}
@@ -20,40 +21,17 @@ use Rattle.list.proofs.Laws.{list-accepted}
 use Rattle.numbers.specs.Numbers.{room}
 use Rattle.numbers.proofs.ListBytes.{bytes-accepted}
 use Rattle.checks.proofs.Reading.{of-read}
-use Rattle.stages.specs.Run.{Report, resultOf, resultRead}
+use Rattle.stages.specs.Run.{Report, resultRead}
 use Rattle.entries.specs.declared.Answer.{Answer}
 use Rattle.entries.specs.Answers.{answerOf, answerNumber, Ran}
 use Rattle.entries.specs.Promise.{Promise}
 use Rattle.stratelyn.specs.Hosts.{replyBytes, Hosted, Served}
-use Rattle.drift.specs.Drift.{TwoGauges, Drift}
-use Rattle.drift.specs.Returned.{Input, card, list, bytes, read, ReadByTwoGauges, DriftReturned, GaugeDrift}
+use Rattle.drift.specs.Drift.{followsPath, TwoGauges, Drift}
+use Rattle.drift.specs.Returned.{Input, card, list, bytes, read, Gave, GaugeDrift}
 use Rattle.drift.proofs.Runs.{AcceptedRun, accepted-run}
 use Rattle.drift.proofs.TwoRuns.{drift}
 
--- ---- two runs
-
-drift-of : {q p : Quantities} {one other : Report} → TwoGauges q p → AcceptedRun q one → AcceptedRun p other → Drift q p one other
-drift-of {q} {p} gauges run run′ =
-    rw (gauges .one-is, gauges .other-is)
-    (drift (gauges .field) (gauges .path) (gauges .ages) (q .jackingStress) (p .jackingStress)
-    (rw (gauges .one-is) at run) (rw (gauges .other-is) at run′))
-
--- the other has as many segments and ages as the one
-same-path : {q p : Quantities} → TwoGauges q p → q .path ≡ p .path
-same-path gauges = ap (λ (z : Quantities). z .path) (gauges .one-is) ∙ sym (ap (λ (z : Quantities). z .path) (gauges .other-is))
-
-same-ages : {q p : Quantities} → TwoGauges q p → q .ages ≡ p .ages
-same-ages gauges = ap (λ (z : Quantities). z .ages) (gauges .one-is) ∙ sym (ap (λ (z : Quantities). z .ages) (gauges .other-is))
-
-drift-of-runs : {q p : Quantities} → TwoGauges q p → length (q .path) ≤ mostSegments → length (q .ages) ≤ mostAges
-    → (report scratch report′ scratch′ : ℕ) {one other : Report} → resultOf q report scratch ≡ Gives one
-    → resultOf p report′ scratch′ ≡ Gives other → Drift q p one other
-drift-of-runs {q} {p} gauges few-segments few-ages report scratch report′ scratch′ ran ran′ =
-    drift-of gauges (accepted-run q report scratch few-segments few-ages (gauges .one-over-the-tendon) ran)
-    (accepted-run p report′ scratch′ (rw (same-path gauges) at few-segments) (rw (same-ages gauges) at few-ages)
-    (gauges .other-over-the-tendon) ran′)
-
--- ---- what the entries return
+-- ---- the runs of two inputs
 
 -- the counts of what was read are in their ranges
 read-accepted : (input : Input) (segments ages : ℕ) → read input .reading ≡ Fields segments ages
@@ -73,63 +51,57 @@ few input =
       rw (ages-length ages (drop (headFields + perSegment * segments) fields)) (good .few-ages),
     ))
 
--- an accepted run, and what was returned of it
-record Gave (outcome : Outcome) (report scratch : ℕ) (Returned : Report → Type 0) : Type 0 where
-  given : Report
-  is : resultRead outcome report scratch ≡ Gives given
-  returned : Returned given
+run-of : (input : Input) {q : Quantities} → quantitiesRead (read input) ≡ Gives q → followsPath q ≡ false
+    → (report scratch : ℕ) {given : Report} → resultRead (read input) report scratch ≡ Gives given → AcceptedRun q given
+run-of input {q} is-read over report scratch ran =
+    let (few-segments, few-ages) = few input q is-read in
+    accepted-run q report scratch few-segments few-ages over (rw is-read at ran)
+
+drift-of : {q p : Quantities} {one other : Report} → TwoGauges q p → AcceptedRun q one → AcceptedRun p other → Drift q p one other
+drift-of {q} {p} gauges run run′ =
+    rw (gauges .one-is, gauges .other-is)
+    (drift (gauges .field) (gauges .path) (gauges .ages) (q .jackingStress) (p .jackingStress)
+    (rw (gauges .one-is) at run) (rw (gauges .other-is) at run′))
+
+-- ---- what the entries return
 
 -- what holds of a result that has the number of what is accepted
-gave : (outcome : Outcome) (report scratch : ℕ) (Holds : OrRefusal Report → Type 0) → Holds (resultRead outcome report scratch)
-    → answerNumber (answerOf (resultRead outcome report scratch)) ≡ acceptanceNumber
-    → Gave outcome report scratch (λ given. Holds (Gives given))
-gave outcome report scratch Holds holds accepted = by (resultRead outcome report scratch) refl
+gave : (input : Input) (report scratch : ℕ) (Holds : OrRefusal Report → Type 0) → Holds (resultRead (read input) report scratch)
+    → answerNumber (answerOf (resultRead (read input) report scratch)) ≡ acceptanceNumber
+    → Gave input report scratch (λ given. Holds (Gives given))
+gave input report scratch Holds holds accepted = by (resultRead (read input) report scratch) refl
   where
-    by : (result : OrRefusal Report) → resultRead outcome report scratch ≡ result
-        → Gave outcome report scratch (λ given. Holds (Gives given))
-    by (Gives given) is = record { given = given; is = is; returned = rw is at holds }
+    by : (result : OrRefusal Report) → resultRead (read input) report scratch ≡ result
+        → Gave input report scratch (λ given. Holds (Gives given))
+    by (Gives given) is = record { given = given; given-is = is; is-returned = rw is at holds }
     by (Refuses refusal) is = absurd (omega (arith, refusal-number refusal, rw is at accepted))
 
-answered : {outcome : Outcome} {answer : Answer} {report reportWas scratch scratchWas : List ℕ}
-    → Promise outcome answer report reportWas scratch scratchWas → answerNumber answer ≡ acceptanceNumber
-    → Gave outcome (length reportWas) (length scratchWas) (λ given. Ran (Gives given) answer report reportWas scratch scratchWas)
-answered {outcome} {answer} {report} {reportWas} {scratch} {scratchWas} promise accepted =
-    gave outcome (length reportWas) (length scratchWas) (λ result. Ran result answer report reportWas scratch scratchWas)
+answered : (input : Input) {answer : Answer} {report reportWas scratch scratchWas : List ℕ}
+    → Promise (read input) answer report reportWas scratch scratchWas → answerNumber answer ≡ acceptanceNumber
+    → Gave input (length reportWas) (length scratchWas) (λ given. Ran (Gives given) answer report reportWas scratch scratchWas)
+answered input {answer} {report} {reportWas} {scratch} {scratchWas} promise accepted =
+    gave input (length reportWas) (length scratchWas) (λ result. Ran result answer report reportWas scratch scratchWas)
     (promise .exact) (sym (promise .exact .answered .number-is) ∙ accepted)
 
 -- a reply without room gives another number
-hosted : {outcome : Outcome} {number : ℕ} {report reportWas scratch scratchWas reply replyWas : List ℕ}
-    → Served outcome number report reportWas scratch scratchWas reply replyWas → number ≡ acceptanceNumber
-    → Gave outcome (room (length reportWas)) (room (length scratchWas))
+hosted : (input : Input) {number : ℕ} {report reportWas scratch scratchWas reply replyWas : List ℕ}
+    → Served (read input) number report reportWas scratch scratchWas reply replyWas → number ≡ acceptanceNumber
+    → Gave input (room (length reportWas)) (room (length scratchWas))
     (λ given. Hosted (Gives given) number report reportWas reply replyWas)
-hosted {outcome} {number} {report} {reportWas} {scratch} {scratchWas} {reply} {replyWas} served accepted =
-    let served-so = served .exact (by (decLt (length replyWas) replyBytes)) in
-    gave outcome (room (length reportWas)) (room (length scratchWas)) (λ result. Hosted result number report reportWas reply replyWas)
-    served-so (sym (served-so .number-is) ∙ accepted)
+hosted input {number} {report} {reportWas} {scratch} {scratchWas} {reply} {replyWas} served accepted =
+    let enough = served .exact (by (decLt (length replyWas) replyBytes)) in
+    gave input (room (length reportWas)) (room (length scratchWas)) (λ result. Hosted result number report reportWas reply replyWas)
+    enough (sym (enough .number-is) ∙ accepted)
   where
     by : Dec (length replyWas < replyBytes) → replyBytes ≤ length replyWas
     by (yes short) = absurd (omega (arith, served .short short .number-is))
     by (no enough) = omega arith
 
-module _ {one other : Input} {q p : Quantities} (inputs : ReadByTwoGauges one other q p) where
-  drift-returned : {report scratch report′ scratch′ : ℕ} {OneReturned OtherReturned : Report → Type 0}
-      → Gave (read one) report scratch OneReturned → Gave (read other) report′ scratch′ OtherReturned
-      → DriftReturned q p OneReturned OtherReturned
-  drift-returned {report} {scratch} {report′} {scratch′} ran ran′ =
-      let (few-segments, few-ages) = few one q (inputs .one-read) in
-      record {
-        one = ran .given;
-        other = ran′ .given;
-        one-returned = ran .returned;
-        other-returned = ran′ .returned;
-        drift = drift-of-runs (inputs .gauges) few-segments few-ages report scratch report′ scratch′
-            (rw (inputs .one-read) at (ran .is)) (rw (inputs .other-read) at (ran′ .is));
-      }
-
 pub gauge-drift : GaugeDrift
 gauge-drift = record {
-  runs = drift-of-runs;
-  entries = λ inputs promise accepted promise′ accepted′.
-      drift-returned inputs (answered promise accepted) (answered promise′ accepted′);
-  hosts = λ inputs served accepted served′ accepted′. drift-returned inputs (hosted served accepted) (hosted served′ accepted′);
+  entries = answered;
+  hosts = hosted;
+  carried = λ one other inputs report scratch report′ scratch′ ran ran′.
+      drift-of (inputs .gauges) (run-of one (inputs .one-read) (inputs .gauges .one-over-the-tendon) report scratch ran)
+      (run-of other (inputs .other-read) (inputs .gauges .other-over-the-tendon) report′ scratch′ ran′);
 }

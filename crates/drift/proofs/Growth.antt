@@ -25,8 +25,8 @@ use Rattle.tolerance.proofs.Relaxation.{lowestYield, leastDivisor, mostRatio, m
 abbrev pub wholeRise : ℕ
 wholeRise = 16
 
--- a loss that is `low` at one stress and `high` at another that lies `rise` ticks above: it does not fall, and it grows by at most so many
--- sixteenths of the rise, and a rounding
+-- a loss, or a stress that is left, which is `low` at one stress and `high` at another that lies `rise` ticks above: it does not fall, and
+-- it grows by at most so many sixteenths of the rise, and a rounding
 pub record Grows (sixteenths rounding rise low high : ℕ) : Type 0 where
   pub least : low ≤ high
   pub most : wholeRise * high ≤ wholeRise * low + sixteenths * rise + wholeRise * rounding
@@ -77,7 +77,7 @@ module _ (kappa g y rise : ℕ) where
       quotient-grows D some rise rounding (mul-le-mul-left m concrete-least)
       (omega (arith, mul-le-mul-left m concrete-most, slope-most m D slope))
 
--- W/T at the most, rounded up
+-- W/T by what is more than U can be, rounded up
 abbrev pub creepRounding : ℕ
 creepRounding = mostCreep / T + 1
 
@@ -101,7 +101,8 @@ shortening-grows es eci kappa g y rise es-most eci-least =
 
 -- ---- relaxation
 
--- 1445/2560 of the rise, for f·ΔL/D, by q at its most, 0.3912; and 1445/2560 by 0.80/0.85, for q: 0.752; rounded up
+-- f·ΔL/D grows by 1445/2560 of the rise, times q at its most, 0.3912: 0.221; and q grows by T/Y of it, times f·ΔL/D at 0.80 F: 0.531.
+-- Together 0.752, rounded up to sixteenths
 abbrev pub relaxationSixteenths : ℕ
 relaxationSixteenths = 13
 

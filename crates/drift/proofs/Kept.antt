@@ -1,7 +1,8 @@
 -- The two runs in ticks, step beside step: what the gauges differ by is the most that the two stresses ever do. Along the path a factor of
 -- at most 1 is left of both; slip and the deflector loss take the same of both. Every other loss grows with the stress, so that the
--- higher stress comes down more; and by less than twice the rise, so that even where the two change places they lie no further apart.
--- What roundings add is less than what is left of a psi: two gauges that differ at all differ by as much. Assumes nothing.
+-- higher stress comes down more; and it grows by less than twice the rise, so that even where the two change places they lie no further
+-- apart. What roundings add is less than what that leaves of a psi, and two gauges that differ at all differ by a psi at least. Assumes
+-- nothing.
 use mathlib.Core.Path.{_≡_, refl, subst}
 use mathlib.Core.List.{List}
 use Prim.Native.Nat.{ℕ, _+_, _-_, _≤_}
@@ -22,10 +23,11 @@ use Rattle.member.specs.Member.{memberOf, kindOf, steelOf, kappaOf, creepOf}
 use Rattle.member.specs.Facts.{RisingFrom, rises, Facts}
 use Rattle.stages.specs.declared.intervals.Row.{Row}
 use Rattle.stages.specs.Run.{earlyRelaxation, earlyRelaxationOf, shorteningOf, endAt, lossesBetween, together, Report}
+use Rattle.tolerance.specs.Method.{tableChoice}
 use Rattle.tolerance.specs.Demand.{coreAfterSlip, coreAfterDeflector, coreAfterEarly, stressesOf, coreStresses}
 use Rattle.tolerance.proofs.Bounds.{Low, low, creep-top}
 use Rattle.tolerance.proofs.Ends.{between, before-transfer}
-use Rattle.tolerance.proofs.Logarithms.{mostRise, table-logs}
+use Rattle.tolerance.proofs.Logarithms.{mostRise, Logs, table-logs}
 use Rattle.tolerance.proofs.Run.{AgesRun, no-age, an-age, stressTo}
 use Rattle.drift.specs.Drift.{jackedTo, distance}
 use Rattle.drift.proofs.Runs.{AcceptedRun, friction-leaves, slip-is, early-fits, shortening-fits, shortening-leaves}
@@ -78,6 +80,10 @@ loss-apart q loss growing slope rounding e large =
 
 -- ---- the losses of a member
 
+-- the core's own logarithms; what factors stand beside them does not matter here
+own-logs : Logs 0 (tableChoice (λ j. whole 0))
+own-logs = table-logs
+
 module _ {q : Quantities} {report scratch : ℕ} (facts : Facts q report scratch) where
   relaxation-growing : (logarithms : ℕ) → logarithms ≤ mostRise
       → Growing q relaxationSixteenths relaxationRounding
@@ -89,8 +95,7 @@ module _ {q : Quantities} {report scratch : ℕ} (facts : Facts q report scratch
   early-growing : (kind : Kind) → Growing q relaxationSixteenths relaxationRounding (earlyRelaxation kind (memberOf q))
   unfolding memberOf
   early-growing Pretensioned =
-      let rise = before-transfer facts (table-logs {factor = λ j. whole 0}) in
-      relaxation-growing _ (omega (arith, rise .table-top))
+      relaxation-growing _ (omega (arith, before-transfer facts own-logs .table-top))
   early-growing PostTensioned = λ y rise top. omega arith
 
   shortening-growing : Growing q wholeRise shorteningRounding (shorteningOf (memberOf q))
@@ -104,7 +109,7 @@ module _ {q : Quantities} {report scratch : ℕ} (facts : Facts q report scratch
       (λ stress. together (lossesBetween (memberOf q) stress (endAt (memberOf q) moments hour) (endAt (memberOf q) added later)))
   unfolding memberOf
   losses-growing moments added hour later more on life y rise top =
-      let ends = between facts (table-logs {factor = λ j. whole 0}) moments added hour later more on life in
+      let ends = between facts own-logs moments added hour later more on life in
       grow-together
       (grow-together
       (creep-grows (creepOf q) _ (kappaOf q) _ y rise (ends .creep .ticks) (creep-top q) (facts .creep-most))

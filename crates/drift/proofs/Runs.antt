@@ -3,25 +3,22 @@
 use mathlib.Core.Path.{_≡_}
 use mathlib.Core.Bool.{false}
 use Prim.Native.Nat.{ℕ, _-_, _≤_}
-use native.Mathlib.Nat.{le-refl}
 use native.Mathlib.Omega.{arith}
 use lib.ListN.{length}
-use lib.Seq.{take-all}
 use Rattle.fields.specs.Quantities.{Quantities}
 use Rattle.fields.specs.Limits.{mostSegments, mostAges}
 use Rattle.fields.specs.Outcomes.{Gives}
 use Rattle.fields.proofs.Onward.{through}
 use Rattle.formulas.specs.Steps.{slipLoss}
-use Rattle.formulas.proofs.Laws.{stress-left-most}
 use Rattle.member.specs.Constants.{jacked, stressAlong}
-use Rattle.member.specs.Member.{memberOf, frictionOf, checkedOf}
+use Rattle.member.specs.Member.{memberOf, checkedOf}
 use Rattle.member.specs.Facts.{Facts}
 use Rattle.member.proofs.Laws.{accepted}
 use Rattle.stages.specs.Run.{earlyRelaxationOf, shorteningOf, Report, memberResult, resultOf}
 use Rattle.tolerance.specs.Demand.{slipDiesOut, coreAfterDeflector, coreAfterEarly, Demand3}
 use Rattle.tolerance.proofs.Demand3.{demand-3}
 use Rattle.tolerance.proofs.Run.{Began, AgesRun, run, slips-over-the-tendon}
-use Rattle.drift.specs.Drift.{slipDiesOutIn}
+use Rattle.drift.specs.Drift.{followsPath}
 
 pub record AcceptedRun (q : Quantities) (given : Report) : Type 0 where
   pub report : ℕ
@@ -36,7 +33,7 @@ pub record AcceptedRun (q : Quantities) (given : Report) : Type 0 where
   pub demand : Demand3 q given
 
 pub accepted-run : (q : Quantities) (report scratch : ℕ) {given : Report} → length (q .path) ≤ mostSegments
-    → length (q .ages) ≤ mostAges → slipDiesOutIn q ≡ false → resultOf q report scratch ≡ Gives given → AcceptedRun q given
+    → length (q .ages) ≤ mostAges → followsPath q ≡ false → resultOf q report scratch ≡ Gives given → AcceptedRun q given
 accepted-run q report scratch {given} few-segments few-ages over result =
     let checked = through (checkedOf q report scratch) (λ m. memberResult m (q .ages)) result in
     let known = accepted q report scratch (checked .given-is) in
@@ -63,9 +60,7 @@ module _ {q : Quantities} {given : Report} (accepted : AcceptedRun q given) wher
 
   -- what friction leaves is the stress after the last segment
   pub friction-leaves : jacked q - given .before .friction ≡ stressAlong q (length (q .path))
-  friction-leaves =
-      rw (take-all (length (q .path)) (q .path) (le-refl (length (q .path))))
-      (omega (arith, began .friction, stress-left-most (jacked q) (frictionOf q)))
+  friction-leaves = omega (arith, accepted .demand .linked .path-end)
 
   pub slip-is : given .before .slip ≡ slipLoss (q .Es) (q .slip) (q .tendonLength)
   slip-is = slips-over-the-tendon began (accepted .over-the-tendon)

@@ -12,7 +12,6 @@ use Rattle.fraction.specs.Fraction.{whole, Within}
 use Rattle.fraction.proofs.Laws.{≼-trans, ≼-of-≈, whole-⊕}
 use Rattle.fraction.proofs.Floors.{whole-order}
 use Rattle.ticks.specs.Ticks.{ticksPerUnit}
-use Rattle.logarithm.proofs.Laws.{never-falls}
 use Rattle.exponential.specs.Factor.{powers}
 use Rattle.exponential.specs.Series.{sumTo}
 use Rattle.fields.specs.Quantities.{Quantities, Segment, Age}
@@ -20,6 +19,7 @@ use Rattle.member.specs.Constants.{jacked}
 use Rattle.stages.specs.Run.{Report}
 use Rattle.tolerance.specs.Method.{Choice, exponentAlong, Admissible, tableChoice}
 use Rattle.tolerance.specs.Demand.{stepsOf, coreStresses, coreAfterDeflector, exactStresses}
+use Rattle.tolerance.proofs.Logarithms.{table-logs}
 use Rattle.drift.specs.Drift.{jackedTo, distance, psiPerStep, Carried, CarriedInFractions, Drift}
 use Rattle.drift.proofs.Beside.{Beside, beside-at, beside-lengths}
 use Rattle.drift.proofs.Runs.{AcceptedRun}
@@ -90,7 +90,8 @@ module _ (field : ℕ → ℕ) (path : List Segment) (ages : List Age) (a b : �
       deflector = omega (arith, deflector-kept);
     }
 
-    -- within a psi more than the drift, which the walk takes also where the gauges agree
+    -- a walk of a psi more, which can be made where the gauges agree too: it is here for its bounds of 0.80 F, which the walk in fractions
+    -- needs
     near : (place : ℕ) → place < stepsOf q
         → Apart q (e + ticksPerUnit) (getD (coreStresses q one) place 0) (getD (coreStresses p other) place 0)
     near = at (e + ticksPerUnit) (omega arith) (omega arith)
@@ -115,12 +116,21 @@ module _ (field : ℕ → ℕ) (path : List Segment) (ages : List Age) (a b : �
           }
 
     some-choice : Admissible q (tableChoice (λ j. sumTo powers (exponentAlong q j)))
-    some-choice = record {
-      least = λ hour some life. whole-order (omega arith);
-      most = λ hour some life. whole-order (omega arith);
-      rises = λ hour later some le life. whole-order (never-falls hour later le);
-      factors = run .demand .some-factors;
-    }
+    some-choice =
+        let logs = table-logs {factor = λ j. sumTo powers (exponentAlong q j)} in
+        record {
+          least = logs .least;
+          most = λ hour some life. whole-order (omega arith);
+          rises = logs .rises;
+          factors = run .demand .some-factors;
+        }
 
     pub drift : Drift q p one other
-    drift = record { asked = carried psiPerStep; kept = carried 0; in-fractions = in-fractions; some-choice = some-choice }
+    drift = record {
+      asked = carried psiPerStep;
+      kept = carried 0;
+      in-fractions = in-fractions;
+      some-choice = some-choice;
+      one-linked = run .demand .linked;
+      other-linked = run′ .demand .linked;
+    }

@@ -1,4 +1,4 @@
--- The theorem `gauge-drift` rests on it. Two runs of one member, jacked by two gauges, as one statement: document 02, W8.
+-- The theorem `gauge-drift` rests on it. Two runs of one member whose jacking stress two gauges read, as one statement: document 02, W8.
 use Prim.Native.Nat.{ℕ, suc, _+_, _-_, _*_, _≤_, _<_}
 use mathlib.Core.Path.{_≡_}
 use mathlib.Core.Bool.{Bool, false, cond}
@@ -15,7 +15,7 @@ use Rattle.member.specs.Constants.{jacked}
 use Rattle.member.specs.Member.{frictionOf, pathLengthOf}
 use Rattle.stages.specs.Run.{Report}
 use Rattle.tolerance.specs.Method.{Choice, exponentAlong, Admissible, tableChoice, afterDeflector}
-use Rattle.tolerance.specs.Demand.{stepsOf, coreStresses, coreAfterDeflector, exactAfterSlip, exactStresses}
+use Rattle.tolerance.specs.Demand.{stepsOf, coreStresses, coreAfterDeflector, exactAfterSlip, exactStresses, Linked}
 
 -- ---- "two accepted cards differ only in jacking stress, by d psi"
 
@@ -28,8 +28,8 @@ abbrev pub jackedTo : ℕ → (ℕ → ℕ) → List Segment → List Age → Qu
 jackedTo stress field path ages = quantitiesBy (allBut (fieldNumber .jackingStress) stress field) path ages
 
 -- whether a member's slip dies out along its path, by the core's own friction: "Cards whose slip follows W5 are left out"
-abbrev pub slipDiesOutIn : Quantities → Bool
-slipDiesOutIn q = diesOut (frictionLoss (jacked q) (frictionOf q)) (pathLengthOf q)
+abbrev pub followsPath : Quantities → Bool
+followsPath q = diesOut (frictionLoss (jacked q) (frictionOf q)) (pathLengthOf q)
 
 -- two members that have all in common but their jacking stress, and whose slip goes over the tendon
 pub record TwoGauges (q p : Quantities) : Type 0 where
@@ -38,8 +38,8 @@ pub record TwoGauges (q p : Quantities) : Type 0 where
   pub ages : List Age
   pub one-is : q ≡ jackedTo (q .jackingStress) field path ages
   pub other-is : p ≡ jackedTo (p .jackingStress) field path ages
-  pub one-over-the-tendon : slipDiesOutIn q ≡ false
-  pub other-over-the-tendon : slipDiesOutIn p ≡ false
+  pub one-over-the-tendon : followsPath q ≡ false
+  pub other-over-the-tendon : followsPath p ≡ false
 
 -- how far apart two numbers are
 abbrev pub distance : ℕ → ℕ → ℕ
@@ -87,3 +87,6 @@ pub record Drift (q p : Quantities) (one other : Report) : Type 0 where
   pub in-fractions : (choice : Choice) → Admissible q choice → CarriedInFractions choice q p one other
   -- there is such a choice: the core's own logarithms, and the sums up to the 15th power, next to those up to the 16th
   pub some-choice : Admissible q (tableChoice (λ j. sumTo powers (exponentAlong q j)))
+  -- as in demand 3: the stresses are those of reply and report, the last one among them, and none is a difference that is cut at 0
+  pub one-linked : Linked q one
+  pub other-linked : Linked p other

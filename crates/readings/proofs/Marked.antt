@@ -1,10 +1,11 @@
--- The theorem `marked`: document 01's marked readings and edges, all of them, the edges of document 02's 11, 12 and 13, and an elongation
--- sheet. Each is computed from the definitions, unfolded down to arithmetic, but for the drop at the jack, which is found by its two
--- squares. Assumes nothing.
-use Prim.Native.Nat.{_+_, _*_}
+-- The theorem `marked`: document 01's marked readings and edges, all of them, the edges of document 02's 11, 12 and 13, an elongation sheet
+-- and two members by two gauges. Each is computed from the definitions, unfolded down to arithmetic, but for the drop at the jack, which is
+-- found by its two squares. Assumes nothing.
+use Prim.Native.Nat.{_+_, _-_, _*_}
 use mathlib.Core.Path.{_≡_, refl, sym}
 use mathlib.Core.List.{[], _∷_}
 use lib.Dec.{leb→le, lit≤}
+use lib.ListN.{getD}
 use Rattle.formulas.proofs.Drop.{one-drop}
 use lib.Ieee.{round, toBits}
 use Rattle.ticks.specs.Doubles.{ticksOf, wholeOf, magnitude, one}
@@ -14,7 +15,7 @@ use Rattle.fields.specs.Outcomes.{numbersIn}
 use Rattle.line.specs.Lines.{digitsOf, spacesIn}
 use Rattle.card.specs.Card.{cardOutcome}
 use Rattle.list.specs.Lists.{amountsBy, countsIn, listOutcome}
-use Rattle.fields.specs.Quantities.{segmentsFrom, agesFrom}
+use Rattle.fields.specs.Quantities.{segmentsFrom, agesFrom, quantitiesOf}
 use Rattle.exponential.specs.Factor.{factor}
 use Rattle.member.specs.Constants.{pathFriction, pathLength}
 use Rattle.formulas.specs.Steps.{dropAtJack}
@@ -24,7 +25,7 @@ use Rattle.stages.specs.Run.{memberResult}
 use Rattle.elongation.specs.Sheet.{elongationsFrom, sumOf, sheetResult}
 use Rattle.text.specs.Columns.{firstColumns}
 use Rattle.text.specs.Text.{agesText, elongationsText, textOf}
-use Rattle.readings.specs.Readings.{Marked, withAnchorSet, linesOf, fieldsOf, hourly, numberAndPlace, resultOfCard, withAges}
+use Rattle.readings.specs.Readings.{Marked, withAnchorSet, sampleLines, linesOf, fieldsOf, hourly, numberAndPlace, resultOfCard, withAges}
 use Rattle.readings.specs.Readings.{double0153, halfApart}
 
 -- what opens every definition that a reading is computed by, but the drop at the jack
@@ -98,4 +99,18 @@ marked = record {
   mean-unrounded = refl;
   sheet-refused-with-4 = refl;
   sheet-refused-with-13 = refl;
+  gauges = record {
+    one-read = refl;
+    other-read = refl;
+    gauges = record {
+      field = λ number. getD (fieldsOf sampleLines) (number - 1) 0;
+      path = [];
+      ages = quantitiesOf 0 3 (fieldsOf sampleLines) .ages;
+      one-is = refl;
+      other-is = refl;
+      one-over-the-tendon = refl;
+      other-over-the-tendon = refl;
+    };
+  };
+  gauges-pass = refl;
 }

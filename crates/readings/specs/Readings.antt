@@ -1,6 +1,6 @@
 -- The theorem `marked` rests on it. The readings that document 01 marks ★, and its edges, in the order of its "Sample beam"; the edges of
--- document 02's 11, 12 and 13, and the elongation sheet of document 002's example 1: one list of what the definitions of the other crates
--- give, to be held beside the papers.
+-- document 02's 11, 12 and 13, the elongation sheet of document 002's example 1, and two members whose gauges differ by a psi: one list of
+-- what the definitions of the other crates give, to be held beside the papers.
 use Prim.Native.Nat.{ℕ, zero, suc, _+_, _-_, _*_, _^_, _≤_}
 use mathlib.Core.Bool.{true, false}
 use mathlib.Core.List.{List, [], _∷_, _++_, map}
@@ -16,7 +16,7 @@ use Rattle.fields.specs.Limits.{mostAges, reportRoom, scratchRoom}
 use Rattle.fields.specs.Outcomes.{accepted, OrRefusal, Gives, Refuses}
 use Rattle.card.specs.Card.{cardOutcome}
 use Rattle.list.specs.Lists.{listOutcome}
-use Rattle.fields.specs.Quantities.{Quantities, Segment, Age, parabola, quantitiesRead}
+use Rattle.fields.specs.Quantities.{Quantities, Segment, Age, parabola, quantitiesOf, quantitiesRead}
 use Rattle.fields.specs.declared.refusal.Refusal.{Refusal}
 use Rattle.fields.specs.Refusals.{number, place, mayAlterScratch}
 use Rattle.formulas.specs.Steps.{diesOut, dropAtJack}
@@ -30,6 +30,7 @@ use Rattle.elongation.specs.Sheet.{elongation}
 use Rattle.text.specs.Columns.{allInColumns, lineOf}
 use Rattle.text.specs.declared.Program.{Program}
 use Rattle.text.specs.Text.{textOf}
+use Rattle.drift.specs.Returned.{card as asCard, ReadAsTwoGauges}
 
 -- ---- the text of a card: "Lines of 14-column fields, decimal digits right-justified behind spaces, each line ended by a line feed."
 
@@ -42,8 +43,11 @@ linesOf (line ∷ lines) = lineOf line ++ linesOf lines
 
 -- "2 1 240000 120000 0 0 102400 / 2 1 28000000 3500000 4000000 3072 / 131072 1048576 0 1024 0 / 24 24 0 0 0 3 / 744 0 / 8784 0 /
 -- 438000 0", and what an edge changes of it
+abbrev pub line1JackedTo : ℕ → List ℕ
+line1JackedTo jackingStress = 2 ∷ 1 ∷ 240000 ∷ jackingStress ∷ 0 ∷ 0 ∷ 102400 ∷ []
+
 abbrev pub line1 : List ℕ
-line1 = 2 ∷ 1 ∷ 240000 ∷ 120000 ∷ 0 ∷ 0 ∷ 102400 ∷ []
+line1 = line1JackedTo 120000
 
 abbrev pub line2 : ℕ → List ℕ
 line2 volumeToSurface = 2 ∷ 1 ∷ 28000000 ∷ 3500000 ∷ 4000000 ∷ volumeToSurface ∷ []
@@ -57,11 +61,18 @@ line4 wobble curvature segments ages = 24 ∷ 24 ∷ wobble ∷ curvature ∷ se
 abbrev pub ageLines : List (List ℕ)
 ageLines = (744 ∷ 0 ∷ []) ∷ (8784 ∷ 0 ∷ []) ∷ (438000 ∷ 0 ∷ []) ∷ []
 
+abbrev pub linesUnder : List ℕ → List (List ℕ)
+linesUnder first = first ∷ line2 3072 ∷ line3 ∷ line4 0 0 0 3 ∷ ageLines
+
 abbrev pub sampleLines : List (List ℕ)
-sampleLines = line1 ∷ line2 3072 ∷ line3 ∷ line4 0 0 0 3 ∷ ageLines
+sampleLines = linesUnder line1
 
 abbrev pub sample : List ℕ
 sample = linesOf sampleLines
+
+-- the same, jacked a psi higher
+abbrev pub higherLines : List (List ℕ)
+higherLines = linesUnder (line1JackedTo 120001)
 
 -- the fields of some lines, in order
 unfoldable pub fieldsOf : List (List ℕ) → List ℕ
@@ -310,3 +321,7 @@ pub record Marked : Type 0 where
   -- "13 when the card is pretensioned, checked just before number 4, place 1"
   pub sheet-refused-with-4 : textOf Program.Sheet (ductUnder line1 184) ≡ linesOf ((4 ∷ 2 ∷ []) ∷ [])
   pub sheet-refused-with-13 : textOf Program.Sheet (ductUnder pretensioned1 184) ≡ linesOf ((13 ∷ 1 ∷ []) ∷ [])
+  -- document 02, W8: "two accepted cards differ only in jacking stress": the sample, and the sample jacked a psi higher
+  pub gauges : ReadAsTwoGauges (asCard sample) (asCard (linesOf higherLines)) (quantitiesOf 0 3 (fieldsOf sampleLines))
+      (quantitiesOf 0 3 (fieldsOf higherLines))
+  pub gauges-pass : numberAndPlace (resultOfCard (linesOf higherLines)) ≡ 0 ∷ 0 ∷ []
