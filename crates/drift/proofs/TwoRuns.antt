@@ -3,8 +3,8 @@
 -- is the walk there. Assumes nothing.
 use mathlib.Core.Path.{_≡_, _∙_}
 use mathlib.Core.List.{List}
-use Prim.Native.Nat.{ℕ, _+_, _*_, _≤_, _<_}
-use native.Mathlib.Nat.{le-refl}
+use Prim.Native.Nat.{ℕ, suc, _+_, _*_, _≤_, _<_}
+use native.Mathlib.Nat.{le-refl, le-trans}
 use native.Mathlib.Decide.{decLe}
 use native.Mathlib.Omega.{arith}
 use lib.ListN.{length, getD}
@@ -20,7 +20,7 @@ use Rattle.stages.specs.Run.{Report}
 use Rattle.tolerance.specs.Method.{Choice, exponentAlong, Admissible, tableChoice}
 use Rattle.tolerance.specs.Demand.{stepsOf, coreStresses, coreAfterDeflector, exactStresses}
 use Rattle.tolerance.proofs.Logarithms.{table-logs}
-use Rattle.drift.specs.Drift.{jackedTo, distance, psiPerStep, Carried, CarriedInFractions, Drift}
+use Rattle.drift.specs.Drift.{jackedTo, distance, psiPerStep, allowance, Carried, CarriedInFractions, Drift}
 use Rattle.drift.proofs.Beside.{Beside, beside-at, beside-lengths}
 use Rattle.drift.proofs.Runs.{AcceptedRun}
 use Rattle.drift.proofs.Kept.{Apart, run-apart, deflected}
@@ -46,6 +46,9 @@ module _ (field : ℕ → ℕ) (path : List Segment) (ages : List Age) (a b : �
   -- d, in ticks
   abbrev e : ℕ
   e = distance a b * ticksPerUnit
+
+  allowed : (perStep steps : ℕ) → e ≤ allowance perStep q p steps
+  allowed perStep steps = omega arith
 
   gauges-apart : (most : ℕ) → e ≤ most → distance (jacked q) (jacked p) ≤ most
   gauges-apart most h = omega arith
@@ -86,8 +89,8 @@ module _ (field : ℕ → ℕ) (path : List Segment) (ages : List Age) (a b : �
     carried perStep = record {
       one-count = count run;
       other-count = count run′;
-      steps = λ place within. omega (arith, step-kept place within);
-      deflector = omega (arith, deflector-kept);
+      steps = λ place within. le-trans (step-kept place within) (allowed perStep (suc place));
+      deflector = le-trans deflector-kept (allowed perStep (suc (length path)));
     }
 
     -- a walk of a psi more, which can be made where the gauges agree too: it is here for its bounds of 0.80 F, which the walk in fractions

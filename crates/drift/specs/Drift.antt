@@ -55,16 +55,19 @@ driftOf q p = distance (q .jackingStress) (p .jackingStress)
 abbrev pub psiPerStep : ℕ
 psiPerStep = 2
 
--- Two lists with a stress for each step. After each step the two stresses of the core differ by at most the drift and so many psi for each
--- step done, the first being 1; and what is allowed after slip is allowed after the deflector loss, which is no step.
+-- "no more than d plus" so many psi for each step done, in ticks
+abbrev pub allowance : ℕ → Quantities → Quantities → ℕ → ℕ
+allowance perStep q p steps = (driftOf q p + perStep * steps) * ticksPerUnit
+
+-- Two lists with a stress for each step. After each step, the first being 1, the two stresses of the core differ by at most what is allowed;
+-- and what is allowed after slip is allowed after the deflector loss, which is no step.
 pub record Carried (perStep : ℕ) (q p : Quantities) (one other : Report) : Type 0 where
   pub one-count : length (coreStresses q one) ≡ stepsOf q
   pub other-count : length (coreStresses p other) ≡ stepsOf q
   pub steps : (place : ℕ) → place < stepsOf q
-      → distance (getD (coreStresses q one) place 0) (getD (coreStresses p other) place 0)
-      ≤ (driftOf q p + perStep * suc place) * ticksPerUnit
-  pub deflector : distance (coreAfterDeflector q (one .before)) (coreAfterDeflector p (other .before))
-      ≤ (driftOf q p + perStep * suc (length (q .path))) * ticksPerUnit
+      → distance (getD (coreStresses q one) place 0) (getD (coreStresses p other) place 0) ≤ allowance perStep q p (suc place)
+  pub deflector :
+      distance (coreAfterDeflector q (one .before)) (coreAfterDeflector p (other .before)) ≤ allowance perStep q p (suc (length (q .path)))
 
 -- the same two runs in fractions, by one choice of logarithms and factors for both: no step brings their stresses further apart
 pub record CarriedInFractions (choice : Choice) (q p : Quantities) (one other : Report) : Type 0 where
