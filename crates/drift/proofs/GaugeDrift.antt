@@ -5,8 +5,10 @@ use mathlib.Core.Path.{_≡_, refl, sym, _∙_}
 use mathlib.Core.Bool.{false}
 use mathlib.Core.List.{List}
 use Prim.Native.Nat.{ℕ, _+_, _*_, _≤_, _<_}
+use native.Mathlib.Nat.{le-trans}
 use native.Mathlib.Decide.{decLt}
 use native.Mathlib.Omega.{arith}
+use lib.Dec.{lit≤}
 use lib.ListN.{length, drop}
 use Rattle.fields.specs.declared.refusal.Reading.the-variants.{Fields}
 use Rattle.fields.specs.Limits.{mostSegments, mostAges}
@@ -28,7 +30,7 @@ use Rattle.entries.specs.Promise.{Promise}
 use Rattle.stratelyn.specs.Hosts.{replyBytes, Hosted, Served}
 use Rattle.drift.specs.Drift.{followsPath, TwoGauges, Drift}
 use Rattle.drift.specs.Returned.{Input, card, list, bytes, read, Gave, GaugeDrift}
-use Rattle.drift.proofs.Runs.{AcceptedRun, accepted-run}
+use Rattle.drift.proofs.Runs.{AcceptedRun, accepted-run, same-rule}
 use Rattle.drift.proofs.TwoRuns.{drift}
 
 -- ---- the runs of two inputs
@@ -51,11 +53,18 @@ few input =
       rw (ages-length ages (drop (headFields + perSegment * segments) fields)) (good .few-ages),
     ))
 
-run-of : (input : Input) {q : Quantities} → quantitiesRead (read input) ≡ Gives q → followsPath q ≡ false
+run-of : (input : Input) {q : Quantities} → quantitiesRead (read input) ≡ Gives q → (0 < q .jackingStress → followsPath q ≡ false)
     → (report scratch : ℕ) {given : Report} → resultRead (read input) report scratch ≡ Gives given → AcceptedRun q given
 run-of input {q} is-read over report scratch ran =
     let (few-segments, few-ages) = few input q is-read in
     accepted-run q report scratch few-segments few-ages over (rw is-read at ran)
+
+-- the other's slip goes over the tendon where the one's does
+other-over : {q p : Quantities} → TwoGauges q p → 0 < q .jackingStress → 0 < p .jackingStress → followsPath p ≡ false
+other-over {q} {p} gauges q>0 p>0 =
+    rw (gauges .other-is)
+    (sym (same-rule (gauges .field) (gauges .path) (gauges .ages) (q .jackingStress) (p .jackingStress) q>0 p>0)
+    ∙ rw (gauges .one-is) at (gauges .over-the-tendon))
 
 drift-of : {q p : Quantities} {one other : Report} → TwoGauges q p → AcceptedRun q one → AcceptedRun p other → Drift q p one other
 drift-of {q} {p} gauges run run′ =
@@ -102,6 +111,8 @@ gauge-drift = record {
   entries = answered;
   hosts = hosted;
   carried = λ one other inputs report scratch report′ scratch′ ran ran′.
-      drift-of (inputs .gauges) (run-of one (inputs .one-read) (inputs .gauges .one-over-the-tendon) report scratch ran)
-      (run-of other (inputs .other-read) (inputs .gauges .other-over-the-tendon) report′ scratch′ ran′);
+      let gauges = inputs .gauges in
+      let run = run-of one (inputs .one-read) (λ some. gauges .over-the-tendon) report scratch ran in
+      let some = le-trans (lit≤ tt) (run .facts .head .jacking-least) in
+      drift-of gauges run (run-of other (inputs .other-read) (other-over gauges some) report′ scratch′ ran′);
 }

@@ -31,15 +31,15 @@ jackedTo stress field path ages = quantitiesBy (allBut (fieldNumber .jackingStre
 abbrev pub followsPath : Quantities → Bool
 followsPath q = diesOut (frictionLoss (jacked q) (frictionOf q)) (pathLengthOf q)
 
--- two members that have all in common but their jacking stress, and whose slip goes over the tendon
+-- two members that have all in common but their jacking stress, and whose slip goes over the tendon: if the one's does, so does the other's
+-- (law `same-rule`)
 pub record TwoGauges (q p : Quantities) : Type 0 where
   pub field : ℕ → ℕ
   pub path : List Segment
   pub ages : List Age
   pub one-is : q ≡ jackedTo (q .jackingStress) field path ages
   pub other-is : p ≡ jackedTo (p .jackingStress) field path ages
-  pub one-over-the-tendon : followsPath q ≡ false
-  pub other-over-the-tendon : followsPath p ≡ false
+  pub over-the-tendon : followsPath q ≡ false
 
 -- how far apart two numbers are
 abbrev pub distance : ℕ → ℕ → ℕ

@@ -108,8 +108,7 @@ marked = record {
       ages = quantitiesOf 0 3 (fieldsOf sampleLines) .ages;
       one-is = refl;
       other-is = refl;
-      one-over-the-tendon = refl;
-      other-over-the-tendon = refl;
+      over-the-tendon = refl;
     };
   };
   gauges-pass = refl;
