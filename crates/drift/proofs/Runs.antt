@@ -1,5 +1,6 @@
 -- An accepted run of a member whose slip goes over the tendon, and what is known of it: the member's facts, demand 3, and each loss before
--- the ages with the stress that it leaves. Assumes nothing.
+-- the ages with the stress that it leaves. Which rule a member's slip follows does not depend on its jacking stress, since friction takes
+-- something of any stress or of none. Assumes nothing.
 use mathlib.Core.Path.{_≡_, sym, _∙_}
 use mathlib.Core.Bool.{false}
 use mathlib.Core.List.{List}

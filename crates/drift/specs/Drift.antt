@@ -21,7 +21,7 @@ use Rattle.tolerance.specs.Demand.{stepsOf, coreStresses, coreAfterDeflector, e
 
 -- fields by their numbers, but for one of them
 abbrev pub allBut : ℕ → ℕ → (ℕ → ℕ) → ℕ → ℕ
-allBut one value field number = cond (eqb number one) value (field number)
+allBut changed value field number = cond (eqb number changed) value (field number)
 
 -- the member of these fields, this path and these ages that is jacked to this stress
 abbrev pub jackedTo : ℕ → (ℕ → ℕ) → List Segment → List Age → Quantities
