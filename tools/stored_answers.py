@@ -4,7 +4,7 @@ anew where the table has changed since they were stored, and writes every answer
 
 The stored cards: crates/cases/data/cards, of which those from 0240 on are built by tools/edge_cards.py, the cards of crates/examples/data,
 the sample, crates/report/stdin, and the card of crates/sheet/stdin, which is one of the examples'. A card's answer is its .out file, or a
-part of the text that its program must print.
+part of the text that its program must print. How many cards the program `cases` runs is written into its code.
 The stored lists: a line of crates/cases/data/lists.txt for each, in four parts: numbers of room in report and scratch; the doubles, each
 as the 16 hexadecimal digits of its bits; number and place; and of an accepted list, in hexadecimal, the numbers before the ages, the bits
 of the last stress as a double, and each age's row.
@@ -15,6 +15,7 @@ Of include/stratelyn.h the plain numbers are written, and the sizes that it comp
 written from them; docs/EXAMPLES.md is held, not written.
 """
 import json
+import re
 from itertools import zip_longest
 from pathlib import Path
 
@@ -30,6 +31,7 @@ ROOT = Path(__file__).resolve().parent.parent
 LAYOUT = ROOT / "tools" / "stored_layout.json"
 CASES = ROOT / "crates" / "cases"
 CARDS = CASES / "data" / "cards"
+COUNT_OF_CARDS = CASES / "src" / "cards.rt"
 EDGES = CASES / "data" / "edges.txt"
 LISTS = CASES / "data" / "lists.txt"
 SHEETS = CASES / "data" / "sheets.txt"
@@ -136,9 +138,10 @@ def hold_lines(checks, path, texts):
 
 
 def hold_cases(checks):
-    """The answers of the cards, lists and sheets of `cases`, and what it must print."""
-    printed = ""
-    for card in sorted(CARDS.glob("*.card")):
+    """The answers of the cards, lists and sheets of `cases`, how many cards it runs, and what it must print."""
+    printed, cards = "", sorted(CARDS.glob("*.card"))
+    checks.file(COUNT_OF_CARDS, re.sub(r"(?<=const CARDS: usize = )\d+", str(len(cards)), COUNT_OF_CARDS.read_text()).encode())
+    for card in cards:
         answer = paper.card_answer(card.read_bytes())
         checks.file(card.with_suffix(".out"), answer.encode())
         printed += answer
