@@ -94,7 +94,7 @@ def in_antt(text):
     kit = of_the_kit(text)
 
     def turn(word, line, at):
-        if line[:at].endswith("tie.") or word in kit:
+        if line[:at].endswith(("tie.", "Nat.")) or word in kit:
             return word
         return respelled(word, line[:at].endswith(".")) if humps(word) or word in TOGETHER else word
 

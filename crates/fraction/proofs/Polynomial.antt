@@ -272,10 +272,10 @@ naturals = record {
   add_assoc = Nat.add_assoc;
   mul_comm = Nat.mul_comm;
   mul_assoc = Nat.mul_assoc;
-  mul_add = Nat.mul_add;
-  zero_add = Nat.zero_add;
-  zero_mul = Nat.zero_mul;
-  one_mul = Nat.one_mul;
+  mul_add = Nat.mul-add;
+  zero_add = Nat.zero-add;
+  zero_mul = Nat.zero-mul;
+  one_mul = Nat.one-mul;
   numeral_add = λ a b. refl;
   numeral_mul = λ a b. refl;
 }
