@@ -1,4 +1,6 @@
 // Numbers at the edge of the core: doubles in, by their bits, as ticks or as whole numbers; ticks out, as the exact double.
+#![tactic(auto)]
+
 ghost use Rattle.std.specs.Prelude.{◌≡◌, false, ◌≤◌};
 ghost use Rattle.std.specs.Float.Ieee.{to_bits};
 ghost use Rattle.std.specs.Float.{binary64};

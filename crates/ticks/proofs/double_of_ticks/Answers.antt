@@ -14,8 +14,7 @@ use lib.Ieee.Back.{round_whole}
 use lib.Ieee.Exact.{HasValue, round_exact}
 use lib.Ieee.Positive.{positive_of_value, mul_at}
 use Rattle.ticks.specs.Ticks.{ticks_per_unit}
-use Rattle.ticks.proofs.double_of_ticks.Statement.{statement}
-use Rattle.ticks.proofs.double_of_ticks.Tie as tie
+use Rattle.ticks.proofs.double_of_ticks.Goals as goal
 
 -- 2 ^ -10
 abbrev tick : Float
@@ -36,12 +35,6 @@ exact (suc t) h =
     subst (λ (x : Float). HasValue x false ticks 1024) (sym product)
     (round_exact binary64 false ticks 1024 ticks 1064 (lit< tt) (omega arith) finite (sym (mul_assoc ticks (2 ^ 1064) 1024)))
 
-int_to_float_result : tie.Need-int-to-float-result
-int_to_float_result c = search rules
-
-returns : tie.Need-returns
+pub returns : goal.returns
 unfolding of_bits
-returns c = exact c.before.args.ticks (search rules)
-
-pub double_of_ticks_spec : {M : Type 1} → statement M
-double_of_ticks_spec = tie.close (tie.spec int_to_float_result returns)
+returns c = exact c.args.ticks (search rules)
