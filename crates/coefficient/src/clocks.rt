@@ -5,19 +5,19 @@ ghost use Rattle.coefficient.specs.Coefficients.{since_transfer, since_curing, s
 use crate::codes::Kind;
 
 // Creep's clock.
-#[derive(Drop)]
+#[derive(Clone, Copy)]
 pub struct HoursSinceTransfer(pub u32);
 
 // Shrinkage's clock.
-#[derive(Drop)]
+#[derive(Clone, Copy)]
 pub struct HoursSinceCuring(pub u32);
 
 // Relaxation's clock.
-#[derive(Drop)]
+#[derive(Clone, Copy)]
 pub struct HoursSinceTensioning(pub u32);
 
 // What starts a member's clocks.
-#[derive(Drop)]
+#[derive(Clone, Copy)]
 pub struct MemberHours {
     pub kind: Kind,
     pub end_of_curing: u32,

@@ -1,24 +1,24 @@
 // The codes of a card that decide a coefficient or a clock.
 
-#[derive(Drop)]
+#[derive(Clone, Copy)]
 pub enum Kind {
     Pretensioned,
     PostTensioned,
 }
 
-#[derive(Drop)]
+#[derive(Clone, Copy)]
 pub enum Cure {
     Moist,
     Accelerated,
 }
 
-#[derive(Drop)]
+#[derive(Clone, Copy)]
 pub enum Concrete {
     Normal,
     Lightweight,
 }
 
-#[derive(Drop)]
+#[derive(Clone, Copy)]
 pub enum Steel {
     StressRelieved,
     LowRelaxation,

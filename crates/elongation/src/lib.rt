@@ -11,13 +11,13 @@ use fields::limits::MOST_FIELDS;
 use fields::refusal::{Reading, Refusal};
 
 // The sum of the segments' elongations and its measurable part, in ticks of inch.
-#[derive(Drop)]
+#[derive(Clone, Copy)]
 pub struct Total {
     pub sum: u64,
     pub measurable: u64,
 }
 
-#[derive(Drop)]
+#[derive(Clone, Copy)]
 pub enum SheetAnswer {
     Accepted(Total),
     Refused(Refusal),

@@ -12,13 +12,13 @@ use fields::refusal::Refusal;
 use stages::before::BeforeAges;
 
 // What an accepted run replies: the losses before the ages and the stress after them, and the last stress in psi.
-#[derive(Drop)]
+#[derive(Clone, Copy)]
 pub struct Reply {
     pub before: BeforeAges,
     pub last: f64,
 }
 
-#[derive(Drop)]
+#[derive(Clone, Copy)]
 pub enum Answer {
     Accepted(Reply),
     Refused(Refusal),

@@ -11,7 +11,7 @@ const DAY: u32 = 24;
 // What creep's and shrinkage's clocks read at the end of the service life, if both start a day after casting.
 const LIFE: u32 = SERVICE_LIFE - DAY;
 
-#[derive(Drop)]
+#[derive(Clone, Copy)]
 enum Share {
     Creep,
     Shrinkage,

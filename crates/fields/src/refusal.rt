@@ -16,7 +16,7 @@ const PRETENSIONED_PLACE: u64 = 1;
 
 // A case for each row of document 01's table, with its place where that varies; and of document 02, for 13, an elongation sheet of a
 // pretensioned card, for 12, a slip that reaches beyond the tendon's length, and for 11, the stress above 0.80 F after a gain.
-#[derive(Drop)]
+#[derive(Clone, Copy)]
 pub enum Refusal {
     Shape(u64),
     Doubles(u64),
@@ -34,21 +34,21 @@ pub enum Refusal {
 }
 
 // The counts of segments and of ages, their fields read; or a refusal.
-#[derive(Drop)]
+#[derive(Clone, Copy)]
 pub enum Reading {
     Fields(u64, u64),
     Not(Refusal),
 }
 
 // That some rows of checks hold, or the refusal of the first that does not.
-#[derive(Drop)]
+#[derive(Clone, Copy)]
 pub enum Rows {
     Hold,
     Refused(Refusal),
 }
 
 // A number, or the refusal that stands in its place.
-#[derive(Drop)]
+#[derive(Clone, Copy)]
 pub enum NumberOrRefusal {
     Number(u64),
     Refused(Refusal),

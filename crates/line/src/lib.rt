@@ -10,14 +10,14 @@ pub mod lines;
 use ticks::Amount;
 
 // The field that may be blank, by its number, and what it then reads.
-#[derive(Drop)]
+#[derive(Clone, Copy)]
 pub enum MayBeBlank {
     NoField,
     Only { field: usize, reads: u64 },
 }
 
 // What stands in a field's 14 columns.
-#[derive(Drop)]
+#[derive(Clone, Copy)]
 pub enum Field {
     Number(u64),
     Blank,

@@ -30,7 +30,7 @@ const STEEL_AREA: usize = places::STEEL_AREA + 1;
 const OWN_WEIGHT_MOMENT: usize = places::OWN_WEIGHT_MOMENT + 1;
 
 // The section's five measures: fields 14 to 18.
-#[derive(Drop)]
+#[derive(Clone, Copy)]
 pub struct Section {
     pub area: f64,
     pub inertia: f64,
@@ -40,7 +40,7 @@ pub struct Section {
 }
 
 // A segment: straight with a length, parabola with length and rise, bend with an angle.
-#[derive(Drop)]
+#[derive(Clone, Copy)]
 pub enum Segment {
     Straight(f64),
     Parabola { length: f64, rise: f64 },
@@ -49,14 +49,14 @@ pub enum Segment {
 
 // The three doubles of a segment: a segment as document 01 lists it, or what is none, held as it came until the rows "doubles",
 // "codes" and "ranges" refuse it.
-#[derive(Drop)]
+#[derive(Clone, Copy)]
 pub enum Entry {
     Listed(Segment),
     Unlisted { kind: f64, second: f64, third: f64 },
 }
 
 // What the three fields of a segment read; the third is a rise, or a bend's angle.
-#[derive(Drop)]
+#[derive(Clone, Copy)]
 pub struct SegmentAmounts {
     pub kind: Amount,
     pub length: Amount,

@@ -1,4 +1,6 @@
 // The logarithm of an hour, by a table of thresholds that is built once a run and lent.
+#![tactic(auto)]
+
 ghost use Rattle.std.specs.Prelude.{◌≡◌};
 ghost use Rattle.logarithm.specs.Logarithm.{logarithm};
 ghost use Rattle.logarithm.specs.Table.{IsTable};

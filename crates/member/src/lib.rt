@@ -22,7 +22,7 @@ use fields::places;
 use fields::refusal::{NumberOrRefusal, Refusal, Rows};
 
 // What the run uses of an accepted member, by the papers' names. Its segments and its ages stay in the fields.
-#[derive(Drop)]
+#[derive(Clone, Copy)]
 pub struct Member {
     pub hours: MemberHours,
     pub steel: Steel,
@@ -45,7 +45,7 @@ pub struct Member {
     pub ages: u64,
 }
 
-#[derive(Drop)]
+#[derive(Clone, Copy)]
 pub enum Checked {
     Accepted(Member),
     Refused(Refusal),

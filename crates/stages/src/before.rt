@@ -12,7 +12,7 @@ use fields::refusal::{NumberOrRefusal, Refusal};
 use member::Member;
 
 // The five losses before the ages, and the stress after them, in ticks.
-#[derive(Drop)]
+#[derive(Clone, Copy)]
 pub struct BeforeAges {
     pub friction: u64,
     pub slip: u64,
@@ -22,7 +22,7 @@ pub struct BeforeAges {
     pub stress: u64,
 }
 
-#[derive(Drop)]
+#[derive(Clone, Copy)]
 pub enum Begun {
     Begins(BeforeAges),
     Refused(Refusal),

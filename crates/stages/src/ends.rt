@@ -9,7 +9,7 @@ use member::Member;
 
 // What stands at an end of an interval: the moments so far and g, their stress; the shares of creep and shrinkage; relaxation's
 // logarithm.
-#[derive(Drop)]
+#[derive(Clone, Copy)]
 pub struct End {
     pub moments: u64,
     pub g: u64,

@@ -9,7 +9,7 @@ use crate::stress;
 use fields::refusal::{NumberOrRefusal, Refusal};
 use member::Member;
 
-#[derive(Drop)]
+#[derive(Clone, Copy)]
 pub struct Losses {
     pub creep: u64,
     pub shrinkage: u64,
@@ -17,7 +17,7 @@ pub struct Losses {
 }
 
 // The losses of an age; the stress after them and after the gain; and the gain.
-#[derive(Drop)]
+#[derive(Clone, Copy)]
 pub struct Row {
     pub creep: u64,
     pub shrinkage: u64,
@@ -26,7 +26,7 @@ pub struct Row {
     pub gain: u64,
 }
 
-#[derive(Drop)]
+#[derive(Clone, Copy)]
 pub enum Passed {
     By(Row),
     Refused(Refusal),

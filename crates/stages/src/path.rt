@@ -12,14 +12,14 @@ use member::Member;
 use ticks::TICKS_PER_UNIT;
 
 // Friction, slip and the stress after both, in ticks.
-#[derive(Drop)]
+#[derive(Clone, Copy)]
 pub struct Seated {
     pub friction: u64,
     pub slip: u64,
     pub stress: u64,
 }
 
-#[derive(Drop)]
+#[derive(Clone, Copy)]
 pub enum Seating {
     Seats(Seated),
     Refused(Refusal),

@@ -6,7 +6,7 @@ ghost use Rattle.tables.specs.Conditions.{row_at};
 use crate::{DAY, Row, at_row, on_line};
 use ticks::TICKS_PER_UNIT;
 
-#[derive(Drop)]
+#[derive(Clone, Copy)]
 pub enum Factor {
     Scf,
     Ssf,

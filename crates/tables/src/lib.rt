@@ -1,4 +1,6 @@
 // Rows that straight lines join, as the tables of factors and of shares have them.
+#![tactic(auto)]
+
 ghost use Rattle.std.specs.Prelude.{◌≡◌, ◌≤◌};
 ghost use Rattle.tables.specs.Tables.{at_row, on_line};
 ghost use Rattle.tables.specs.Conditions.{Between};
@@ -8,7 +10,7 @@ pub mod factors;
 pub mod shares;
 
 // Where a row stands, in ticks of inch or in hours, and its value in hundredths.
-#[derive(Drop)]
+#[derive(Clone, Copy)]
 pub struct Row(pub u32, pub u8);
 
 pub(crate) const DAY: u32 = 24;

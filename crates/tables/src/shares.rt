@@ -8,7 +8,7 @@ ghost use Rattle.ticks.specs.Ticks.{T};
 use crate::{DAY, Row, at_row, on_line};
 use ticks::T;
 
-#[derive(Drop)]
+#[derive(Clone, Copy)]
 pub enum Share {
     Creep,
     Shrinkage,

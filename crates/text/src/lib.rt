@@ -24,7 +24,7 @@ pub const MOST_LINE_BYTES: usize = COLUMNS * MOST_PER_LINE + 1;
 pub const MOST_TEXT_BYTES: usize = MOST_LINE_BYTES * (1 + MOST_AGES);
 
 // Which program prints.
-#[derive(Drop)]
+#[derive(Clone, Copy)]
 pub enum Program {
     Report,
     Sheet,

@@ -10,14 +10,14 @@ ghost use Rattle.ticks.specs.Ticks.{ticks_per_unit};
 ghost use Rattle.ticks.specs.Decoder.{decoded_of, tick_doublings};
 
 // What a double reads.
-#[derive(Drop)]
+#[derive(Clone, Copy)]
 pub enum Amount {
     Of(u64),
     Refused,
 }
 
 // A double after some doublings: cut to a whole number, and whether nothing was cut off.
-#[derive(Drop)]
+#[derive(Clone, Copy)]
 pub enum Decoded {
     Number { quotient: u64, exact: bool },
     Refused,

@@ -1,0 +1,19 @@
+-- Each arm gives the row that stands at its place; only the last place is left for the last arm. Assumes nothing.
+use borrow.Author.Rules.{rules}
+use Rattle.tables.proofs.Arms.{last_arm}
+use Rattle.tables.proofs.factors.scf_row.Goals as goal
+
+pub returns-in-0 : goal.returns-in-0
+returns-in-0 c = rw c.in-0.is
+
+pub returns-in-1 : goal.returns-in-1
+returns-in-1 c = rw c.in-1.is
+
+pub returns-in-2 : goal.returns-in-2
+returns-in-2 c = rw c.in-2.is
+
+pub returns-in-3 : goal.returns-in-3
+returns-in-3 c = rw c.in-3.is
+
+pub returns-in_default : goal.returns-in_default
+returns-in_default c = rw (last_arm c.args.place 4 (search rules) c.requires)
