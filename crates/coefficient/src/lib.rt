@@ -1,4 +1,6 @@
 // The coefficients of creep and shrinkage, and the clocks by which they are read.
+#![tactic(auto)]
+
 ghost use Rattle.std.specs.Prelude.{◌≡◌, ◌-◌, max};
 ghost use Rattle.logarithm.specs.Logarithm.{logarithm};
 ghost use Rattle.logarithm.specs.Table.{IsTable};
@@ -97,6 +99,7 @@ fn reduced(from: u64, less: u64, least: u64) -> u64
 }
 
 // The whole creep of 1 psi of concrete stress, in millionths of psi.
+#[tactic(auto, unfolding(crate::specs::Coefficients::ucr))]
 pub fn ucr_of(cure: Cure, concrete: Concrete, ec: u32) -> u64
     ensures { result ≡ ucr cure concrete ec }
 {

@@ -1,4 +1,6 @@
 // The factor e to the power -X/T that friction leaves of a stress, in units of 1/T: Horner's rule on the series up to the 15th power.
+#![tactic(auto)]
+
 ghost use Rattle.std.specs.Prelude.{◌≡◌, ◌≤◌};
 ghost use Rattle.fields.specs.Limits.{most_friction};
 ghost use Rattle.exponential.specs.Factor.{factor as factor_of};

@@ -1,4 +1,6 @@
 // A line of some fields, of which one may be blank.
+#![tactic(auto)]
+
 ghost use Rattle.std.specs.Prelude.{◌≡◌, ◌≤◌, length, take, drop};
 ghost use Rattle.fields.specs.Quantities.{columns};
 ghost use Rattle.fields.specs.Outcomes.{over};

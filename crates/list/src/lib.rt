@@ -1,4 +1,6 @@
 // The reader of lists of doubles.
+#![tactic(auto)]
+
 ghost use Rattle.std.specs.Prelude.{◌≡◌, ◌≤◌, length};
 ghost use Rattle.fields.specs.Quantities.{head_fields, per_segment};
 ghost use Rattle.fields.specs.Outcomes.{over};

@@ -1,0 +1,13 @@
+-- `list::read_ages` meets its contract. The loop's invariant: the first `at` fields are read, and their numbers stand at the front.
+-- The measure is how many fields are left. Assumes nothing.
+use Prim.Native.Nat.{◌-◌}
+use lib.ListN.{length}
+use Rattle.list.specs.Measures.{ages_amounts}
+use Rattle.list.proofs.Numbers.{Front}
+use Rattle.list.proofs.read_ages.Given as goal
+
+abbrev pub invariant-loop-at : goal.invariant-loop-at
+invariant-loop-at l = Front (ages_amounts l.part) l.initial.fields l.fields l.at
+
+abbrev pub decreases-loop-at : goal.decreases-loop-at
+decreases-loop-at l = length l.part - l.at
