@@ -1,6 +1,8 @@
 // The checks of the fields, row by row of document 01's table of refusals: codes, ranges, hours, duct and buffers. Each row gives the
 // place of its first failing check, or 0.
 
+#![tactic(auto)]
+
 pub mod buffers;
 pub mod codes;
 pub mod duct;

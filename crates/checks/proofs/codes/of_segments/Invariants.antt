@@ -1,0 +1,28 @@
+-- At the loop's head the row's place is the one that the segments left give. A turn makes the first of their checks. Assumes
+-- nothing.
+use mathlib.Core.Path.{◌≡◌, sym, ap, ◌∙◌}
+use mathlib.Core.List.{List, [], ◌∷◌, ◌++◌}
+use Prim.Native.Nat.{ℕ, ◌+◌, ◌-◌, ◌*◌, ◌≤◌, ◌<◌}
+use native.Mathlib.Nat.{add-zero}
+use Rattle.fields.specs.Quantities.{per_segment, bend, segments_from}
+use Rattle.fields.specs.Limits.{range}
+use Rattle.checks.specs.Rows.{Check, at, first_failing, within, segment_codes}
+use Rattle.checks.proofs.Rows.{begins, next_at, Turn, stops, goes_on}
+use Rattle.checks.proofs.Items.{left_segments, segment_at, all_segments, next_segment, no_segment}
+use native.Mathlib.Omega.{arith}
+use borrow.Author.Rules.{rules}
+use Rattle.checks.proofs.codes.of_segments.Given as goal
+
+abbrev pub row_of : List ℕ → ℕ → ℕ → ℕ
+row_of list n place = first_failing (segment_codes place (segments_from n list))
+
+-- the row from the segment `k` on
+abbrev pub left : List ℕ → ℕ → ℕ → ℕ → List Check
+left list n place k = segment_codes (place + per_segment * k) (left_segments list n k)
+
+abbrev pub invariant-loop-segment : goal.invariant-loop-segment
+invariant-loop-segment l =
+    (l.segment ≤ l.segments) × (row_of l.part l.segments l.place ≡ first_failing (left l.part l.segments l.place l.segment))
+
+abbrev pub decreases-loop-segment : goal.decreases-loop-segment
+decreases-loop-segment l = l.segments - l.segment

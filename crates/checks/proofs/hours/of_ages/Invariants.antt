@@ -1,0 +1,30 @@
+-- At the loop's head the row's place is the one that the ages left give, from the hour before them. A turn makes the first of
+-- their checks. Assumes nothing.
+use mathlib.Core.Path.{◌≡◌, sym, ap, ◌∙◌}
+use mathlib.Core.List.{List, [], ◌∷◌, ◌++◌}
+use mathlib.Core.Bool.{◌&&◌}
+use Prim.Native.Nat.{ℕ, ◌+◌, ◌-◌, ◌*◌, ◌≤◌, ◌<◌}
+use native.Mathlib.Nat.{add-zero}
+use lib.Dec.{leb, ltb}
+use Rattle.logarithm.specs.Logarithm.{service_life}
+use Rattle.fields.specs.Quantities.{per_age, ages_from}
+use Rattle.checks.specs.Rows.{Check, at, first_failing, hours_of_ages}
+use Rattle.checks.proofs.Rows.{begins, next_at, Turn, stops, goes_on}
+use Rattle.checks.proofs.Items.{left_ages, age_at, all_ages, next_age, no_age}
+use native.Mathlib.Omega.{arith}
+use borrow.Author.Rules.{rules}
+use Rattle.checks.proofs.hours.of_ages.Given as goal
+
+abbrev pub row_of : List ℕ → ℕ → ℕ → ℕ → ℕ
+row_of list n place before = first_failing (hours_of_ages place before (ages_from n list))
+
+-- the row from the age `k` on, `earlier` being the hour of the one before it
+abbrev pub left : List ℕ → ℕ → ℕ → ℕ → ℕ → List Check
+left list n place earlier k = hours_of_ages (place + per_age * k) earlier (left_ages list n k)
+
+abbrev pub invariant-loop-age : goal.invariant-loop-age
+invariant-loop-age l =
+    (l.age ≤ l.ages) × (row_of l.part l.ages l.place l.before ≡ first_failing (left l.part l.ages l.place l.earlier l.age))
+
+abbrev pub decreases-loop-age : goal.decreases-loop-age
+decreases-loop-age l = l.ages - l.age
