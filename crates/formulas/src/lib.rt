@@ -1,4 +1,6 @@
 // The losses of each step and the gain, in ticks. Every division rounds down. What a function requires is that its products fit.
+#![tactic(auto)]
+
 ghost use Rattle.std.specs.Prelude.{◌≡◌, ◌-◌, ◌<◌};
 ghost use Rattle.formulas.specs.Steps.{stress_left, friction_loss, slip_loss, deflector_ticks, yield, relaxation_divisor, relaxation_factor};
 ghost use Rattle.formulas.specs.Steps.{relaxation_loss, moment_stress, concrete_stress, shortening_loss, creep_loss, shrinkage_loss};

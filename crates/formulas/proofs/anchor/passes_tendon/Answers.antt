@@ -1,5 +1,4 @@
 -- A quotient is below a number just where what is divided is below the number times the divisor. Assumes nothing.
-use borrow.Author.Rules.{rules}
 use mathlib.Core.Path.{◌≡◌}
 use Prim.Native.Nat.{ℕ, ◌*◌, ◌/◌, ◌≤◌, ◌<◌}
 use native.Mathlib.Nat.{div-lt_iff_lt-mul, le-div_iff_mul-le}
@@ -8,8 +7,7 @@ use native.Mathlib.Omega.{arith}
 use lib.Dec.{ltb}
 use borrow.Author.Tests.{lt-ltb, le-ltb}
 use Rattle.formulas.proofs.Products.{product}
-use Rattle.formulas.proofs.anchor.passes_tendon.Statement.{statement}
-use Rattle.formulas.proofs.anchor.passes_tendon.Tie as tie
+use Rattle.formulas.proofs.anchor.passes_tendon.Goals as goal
 
 quotient_below : (x divisor n : ℕ) → 1 ≤ divisor → ltb (x / divisor) n ≡ ltb x (n * divisor)
 quotient_below x divisor n h = by (dec_lt x (n * divisor))
@@ -20,13 +18,10 @@ quotient_below x divisor n h = by (dec_lt x (n * divisor))
         let above : n * divisor ≤ x = omega arith in
         rw (le-ltb _ _ above, le-ltb _ _ ((le-div_iff_mul-le h).1 above))
 
-mul_result_2 : tie.Need-overflow-mul-result-2
-mul_result_2 c = omega (arith, product 29 22 {a = 2 * c.args.friction} {b = c.args.length} (omega arith) (omega arith))
+pub overflow_mul-result-2 : goal.overflow_mul-result-2
+overflow_mul-result-2 c = omega (arith, product 29 22 {a = 2 * c.args.friction} {b = c.args.length} (omega arith) (omega arith))
 
-returns : tie.Need-returns
+pub returns : goal.returns
 returns c =
     let args = c.args in
     quotient_below (2 * args.friction * args.length) args.path_length args.drop c.requires.some_path
-
-pub passes_tendon_spec : {M : Type 1} → statement M
-passes_tendon_spec = tie.close (tie.spec (λ c. search rules) mul_result_2 (λ c. search rules) returns)

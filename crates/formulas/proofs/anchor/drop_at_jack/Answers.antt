@@ -1,6 +1,5 @@
 -- Z² times 3·path is at most 1024·d·Es·slip just where Z² is at most the quotient, which is taken in whole 1,024s and 1,024th parts.
 -- Assumes nothing.
-use borrow.Author.Rules.{rules}
 use mathlib.Core.Path.{◌≡◌}
 use Prim.Native.Nat.{ℕ, suc, ◌+◌, ◌-◌, ◌*◌, ◌/◌, ◌%◌, ◌≤◌, ◌<◌}
 use native.Mathlib.Nat.{div-lt_iff_lt-mul, mod-lt, div-add-mod', mul-div-le, lt-mul-div-succ, mul-le-mul, mul-le-mul_left}
@@ -11,8 +10,7 @@ use Rattle.formulas.specs.Steps.{IsDropAtJack, drop_at_jack}
 use Rattle.formulas.specs.Conditions.{stress_limit, es_limit, most_slip, DropFits}
 use Rattle.formulas.specs.Roots.{Root}
 use Rattle.formulas.proofs.Drop.{one_drop}
-use Rattle.formulas.proofs.anchor.drop_at_jack.Statement.{statement}
-use Rattle.formulas.proofs.anchor.drop_at_jack.Tie as tie
+use Rattle.formulas.proofs.anchor.drop_at_jack.Goals as goal
 
 module _ {d es slip path_length : ℕ} (fits : DropFits d es slip path_length) where
   -- 3·path
@@ -60,23 +58,20 @@ module _ {d es slip path_length : ℕ} (fits : DropFits d es slip path_length) w
     found : z ≡ drop_at_jack d es slip path_length
     found = one_drop d es slip path_length fits.some_path z is_drop
 
-mul_product : tie.Need-overflow-mul-product
-mul_product c = omega (arith, inner_most c.requires)
+pub overflow_mul-product : goal.overflow_mul-product
+overflow_mul-product c = omega (arith, inner_most c.requires)
 
-mul_product_2 : tie.Need-overflow-mul-product-2
-mul_product_2 c = omega (arith, product_most c.requires)
+pub overflow_mul-product-2 : goal.overflow_mul-product-2
+overflow_mul-product-2 c = omega (arith, product_most c.requires)
 
-mul_root_of_ticks : tie.Need-overflow-mul-root-of-ticks
-mul_root_of_ticks c = omega (arith, mod-lt (product c.requires) (some_divisor c.requires))
+pub overflow_mul-product-3 : goal.overflow_mul-product-3
+overflow_mul-product-3 c = omega (arith, mod-lt (product c.requires) (some_divisor c.requires))
 
-root_of_ticks_requires : tie.Need-root-of-ticks-requires
-root_of_ticks_requires c κs = parts_fit c.requires
+pub root_of_ticks-requires : goal.root_of_ticks-requires
+root_of_ticks-requires c = parts_fit c.requires
 
-returns : tie.Need-returns
-returns c = found c.before.requires c.root_of_ticks.result c.root_of_ticks.ensures
+pub returns : goal.returns
+returns c = found c.requires c.root_of_ticks.result c.root_of_ticks.ensures
 
-pub drop_at_jack_spec : {M : Type 1} → statement M
-drop_at_jack_spec =
-    tie.close
-    (tie.spec (λ c. omega arith) mul_product mul_product_2 (λ c. search rules) (λ c. search rules) mul_root_of_ticks (λ c. search rules)
-    root_of_ticks_requires returns)
+pub overflow_mul-divisor : goal.overflow_mul-divisor
+overflow_mul-divisor c = omega arith

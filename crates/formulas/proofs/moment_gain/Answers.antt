@@ -1,6 +1,5 @@
 -- The whole Ec in a rise divide exactly, so that only what is left of the rise is rounded; each of the two by Es fits, where the rise by Es
 -- need not. Assumes nothing.
-use borrow.Author.Rules.{rules}
 use mathlib.Core.Path.{◌≡◌, ap}
 use Prim.Native.Nat.{ℕ, ◌+◌, ◌*◌, ◌/◌, ◌%◌, ◌^◌, ◌≤◌, ◌<◌}
 use native.Mathlib.Nat.{div-le_of_le-mul, mul-le-mul_left, mod-lt, div-add-mod', add-mul-div_right}
@@ -9,8 +8,7 @@ use Rattle.formulas.specs.Steps.{moment_gain}
 use Rattle.formulas.specs.Conditions.{GainFits}
 use Rattle.formulas.proofs.Laws.{gain_most}
 use Rattle.formulas.proofs.Products.{product}
-use Rattle.formulas.proofs.moment_gain.Statement.{statement}
-use Rattle.formulas.proofs.moment_gain.Tie as tie
+use Rattle.formulas.proofs.moment_gain.Goals as goal
 
 module _ {es ec rise : ℕ} (fits : GainFits es ec rise) where
   some_ec : 0 < ec
@@ -29,27 +27,14 @@ module _ {es ec rise : ℕ} (fits : GainFits es ec rise) where
   rest_most : es * (rise % ec) ≤ 2 ^ 48
   rest_most = product 25 23 (omega arith) (omega (arith, fits.ec_fits, mod-lt rise some_ec))
 
-div_result : tie.Need-nonzero-div-result
-div_result c = search rules
+pub overflow_mul-result : goal.overflow_mul-result
+overflow_mul-result c = omega (arith, whole_most c.requires)
 
-mul_result : tie.Need-overflow-mul-result
-mul_result c = omega (arith, whole_most c.requires)
+pub overflow_mul-result-2 : goal.overflow_mul-result-2
+overflow_mul-result-2 c = omega (arith, rest_most c.requires)
 
-rem_result : tie.Need-nonzero-rem-result
-rem_result c = search rules
+pub overflow_add-result : goal.overflow_add-result
+overflow_add-result c = omega (arith, gain_most c.requires, in_parts c.requires)
 
-mul_result_2 : tie.Need-overflow-mul-result-2
-mul_result_2 c = omega (arith, rest_most c.requires)
-
-div_result_2 : tie.Need-nonzero-div-result-2
-div_result_2 c = search rules
-
-add_result : tie.Need-overflow-add-result
-add_result c = omega (arith, gain_most c.requires, in_parts c.requires)
-
-returns : tie.Need-returns
+pub returns : goal.returns
 returns c = in_parts c.requires
-
-pub moment_gain_spec : {M : Type 1} → statement M
-moment_gain_spec =
-    tie.close (tie.spec div_result mul_result rem_result mul_result_2 div_result_2 add_result returns)

@@ -1,0 +1,72 @@
+-- The invariant: `reached` is in, and what lies `left` above it is not. The measure is `left`. Assumes nothing.
+use Prim.Native.Nat.{ℕ, ◌+◌, ◌*◌, ◌/◌, ◌≤◌}
+use native.Mathlib.Nat.{mul-le-mul, mul-le-mul_right}
+use native.Mathlib.Omega.{arith}
+use Rattle.formulas.specs.Roots.{word_limit, FurtherFits}
+use Rattle.formulas.proofs.anchor.further.Goals as goal
+use Rattle.formulas.proofs.anchor.further.Goals.{then-middle-root, else-middle-root}
+
+-- the product rises with n
+grows : (root m n : ℕ) → m ≤ n → m * (2 * root + m) ≤ n * (2 * root + n)
+grows root m n h = mul-le-mul h (omega arith)
+
+-- a product of a number above 0 is no less than the other factor, which so fits as it does
+sum_fits : {root rest above : ℕ} → FurtherFits root rest above → 2 * root + above ≤ word_limit
+sum_fits {root} {above = above} fits = omega (arith, fits.product_fits, mul-le-mul_right (2 * root + above) fits.some)
+
+pub loop-left-init : goal.loop-left-init
+loop-left-init c = record { reaches = omega arith; passes = omega arith; some = omega arith; within = omega arith }
+
+pub overflow_mul-root : goal.overflow_mul-root
+overflow_mul-root c = omega (arith, sum_fits c.requires)
+
+pub overflow_add-root : goal.overflow_add-root
+overflow_add-root c = omega (arith, sum_fits c.requires)
+
+pub overflow_mul-middle : goal.overflow_mul-middle
+overflow_mul-middle c =
+    let args = c.args in
+    let at = c.loop-left in
+    omega (arith, grows args.root (at.reached + at.left / 2 + 1) args.above (omega arith))
+
+pub returns : goal.returns
+returns c =
+    let at = c.loop-left in
+    record {
+      below = omega arith;
+      reached = omega arith;
+      passed = omega (arith, grows c.args.root (at.reached + at.left) (at.reached + 1) (omega arith));
+    }
+
+pub overflow_add-middle : goal.overflow_add-middle
+overflow_add-middle c = omega arith
+
+pub overflow_add-left : goal.overflow_add-left
+overflow_add-left c = omega arith
+
+pub loop-left-smaller : goal.loop-left-smaller
+loop-left-smaller c = omega arith
+
+pub loop-left-preserved : goal.loop-left-preserved
+loop-left-preserved c =
+    let root = c.args.root in
+    let at = c.loop-left in
+    let middle = at.reached + at.left / 2 in
+    let reached = c.if-middle-root.reached in
+    let left = (at.left + 1) / 2 in
+    elim c.if-middle-root.branch [
+      | then-middle-root w ↦
+          record {
+            reaches = omega (arith, grows root reached middle (omega arith));
+            passes = omega (arith, grows root (at.reached + at.left) (reached + left) (omega arith));
+            some = omega arith;
+            within = omega arith;
+          }
+      | else-middle-root w ↦
+          record {
+            reaches = omega (arith, grows root reached at.reached (omega arith));
+            passes = omega (arith, grows root middle (reached + left) (omega arith));
+            some = omega arith;
+            within = omega arith;
+          }
+    ]
