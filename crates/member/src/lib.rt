@@ -1,4 +1,6 @@
 // From numbered fields to an accepted member, or its refusal: codes, ranges, hours, duct, buffers, section and creep.
+#![tactic(auto)]
+
 ghost use Rattle.std.specs.Prelude.{◌≡◌, [], ◌∷◌};
 ghost use Rattle.fields.specs.Given.{number_given, rows_given};
 ghost use Rattle.fields.specs.Quantities.{quantities_of};
