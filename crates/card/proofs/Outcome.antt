@@ -38,10 +38,10 @@ AnnouncedRead blank part segments ages old now wrong =
     × (now ≡ over (announced_of blank segments ages part).numbers old)
 
 -- the bytes of the lines of segments, and their numbers
-abbrev segment_bytes : ℕ → ℕ
+abbrev pub segment_bytes : ℕ → ℕ
 segment_bytes segments = line_length per_segment * segments
 
-abbrev segment_numbers : ℕ → ℕ
+abbrev pub segment_numbers : ℕ → ℕ
 segment_numbers segments = per_segment * segments
 
 -- the lines of segments were read into a buffer
@@ -170,14 +170,14 @@ by : (blank : MayBeBlank) (card old now : List ℕ) (outcome : Outcome) → outc
 by blank card old now outcome e is =
     (ap (λ (o : Outcome). o.reading) (sym e), is ∙ ap (λ (o : Outcome). over o.numbers old) (sym e))
 
-abbrev head_bytes : ℕ
+abbrev pub head_bytes : ℕ
 head_bytes = bytes_on head_lines
 
 -- the counts of a buffer
-abbrev segments_of : List ℕ → ℕ
+abbrev pub segments_of : List ℕ → ℕ
 segments_of buffer = get_or buffer (segments_field - 1) 0
 
-abbrev ages_of : List ℕ → ℕ
+abbrev pub ages_of : List ℕ → ℕ
 ages_of buffer = get_or buffer (ages_field - 1) 0
 
 -- lines 1 to 4 were read into a buffer

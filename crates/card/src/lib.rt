@@ -1,4 +1,6 @@
 // The reader of cards.
+#![tactic(auto)]
+
 ghost use Rattle.std.specs.Prelude.{◌≡◌, ◌≤◌, length};
 ghost use Rattle.fields.specs.Limits.{blank_slip};
 ghost use Rattle.fields.specs.Sizes.{most_fields};

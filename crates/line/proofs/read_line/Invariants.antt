@@ -1,9 +1,7 @@
 -- `read_line` meets its contract. The loop's invariant is `Front`: the fields passed are read, and their numbers stand at the
 -- front of the buffer. Assumes nothing.
-use mathlib.Core.Path.{◌∙◌}
-use Prim.Native.Nat.{◌+◌, ◌-◌}
-use borrow.Author.Rules.{rules}
-use Rattle.line.proofs.Amounts.{Front, begins, too_short, no_line_feed, next_columns, turn, amount_at, wrong_field, all_fields}
+use Prim.Native.Nat.{◌-◌}
+use Rattle.line.proofs.Amounts.{Front}
 use Rattle.line.proofs.read_line.Given as goal
 
 abbrev pub invariant-loop-done : goal.invariant-loop-done

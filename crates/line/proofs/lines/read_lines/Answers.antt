@@ -1,12 +1,9 @@
 -- `read_lines` meets its contract. The loop's invariant is `LinesFront`: the lines passed are right, and their numbers stand at
 -- the front of the buffer. Assumes nothing.
-use Prim.Native.Nat.{◌-◌}
 use native.Mathlib.Omega.{arith}
-use lib.ListN.{length, length-drop}
-use borrow.Author.Tests.{not-true, not-false}
-use borrow.Author.Rules.{rules}
+use lib.ListN.{length-drop}
 use Rattle.fields.proofs.Buffers.{tail}
-use Rattle.line.proofs.LineByLine.{LinesFront, no_lines, all_lines, fits, next_line, wrong_line}
+use Rattle.line.proofs.LineByLine.{no_lines, all_lines, fits, next_line, wrong_line}
 use Rattle.line.proofs.lines.read_lines.Goals as goal
 
 pub loop-done-init : goal.loop-done-init
@@ -32,16 +29,17 @@ returns-then-not-read_line c =
     let loop = c.loop-done in
     let loop_test = c.loop-done-test in
     let read_line = c.read_line in
-    wrong_line loop.invariant loop_test.true read_line.new.1.1.1.1.0 read_line.result read_line.ensures
-    (not-true _ c.if-not-read_line.true)
+    let both = wrong_line loop.invariant loop_test.true read_line.new.fields read_line.result
+    (read_line.ensures.value, read_line.ensures.fields_after) c.if-not-read_line.true in
+    record { value = both.0; fields_after = both.1 }
 
 pub loop-done-preserved : goal.loop-done-preserved
 loop-done-preserved c =
     let loop = c.loop-done in
     let loop_test = c.loop-done-test in
     let read_line = c.read_line in
-    next_line loop.invariant loop_test.true read_line.new.1.1.1.1.0 read_line.result read_line.ensures
-    (not-false _ c.if-not-read_line.false)
+    next_line loop.invariant loop_test.true read_line.new.fields read_line.result
+    (read_line.ensures.value, read_line.ensures.fields_after) c.if-not-read_line.false
 
 pub overflow_mul-at : goal.overflow_mul-at
 overflow_mul-at c = let f = (loop-done-preserved c).at_fits in omega arith
@@ -56,4 +54,6 @@ pub overflow_add-read : goal.overflow_add-read
 overflow_add-read c = let f = (loop-done-preserved c).read_fits in omega arith
 
 pub returns : goal.returns
-returns c = all_lines c.loop-done.invariant c.loop-done-test.false
+returns c =
+    let both = all_lines c.loop-done.invariant c.loop-done-test.false in
+    record { value = both.0; fields_after = both.1 }

@@ -1,12 +1,8 @@
 -- `read_lines` meets its contract. The loop's invariant is `LinesFront`: the lines passed are right, and their numbers stand at
 -- the front of the buffer. Assumes nothing.
 use Prim.Native.Nat.{◌-◌}
-use native.Mathlib.Omega.{arith}
-use lib.ListN.{length, length-drop}
-use borrow.Author.Tests.{not-true, not-false}
-use borrow.Author.Rules.{rules}
-use Rattle.fields.proofs.Buffers.{tail}
-use Rattle.line.proofs.LineByLine.{LinesFront, no_lines, all_lines, fits, next_line, wrong_line}
+use lib.ListN.{length}
+use Rattle.line.proofs.LineByLine.{LinesFront}
 use Rattle.line.proofs.lines.read_lines.Given as goal
 
 abbrev pub invariant-loop-done : goal.invariant-loop-done
