@@ -1,6 +1,8 @@
 // What a member loses at each stage: along the path and at the anchor, before the ages, and in an interval between two ends, where an
 // added moment lifts the stress.
 
+#![tactic(auto)]
+
 pub mod before;
 pub mod ends;
 pub mod intervals;
