@@ -279,6 +279,7 @@ fn read_fields(list: &[f64], segments: usize, fields: &mut [u64]) -> usize
 }
 
 // The counts of a list of the length that they ask for. Field 23 is decoded and ranged before field 24 is looked at.
+#[tactic(auto, unfolding(crate::specs::Lists::counts_in))]
 fn counts(list: &[f64]) -> Reading
     ensures { result ≡ counts_in list.now }
 {

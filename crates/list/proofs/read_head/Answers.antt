@@ -1,13 +1,9 @@
 -- `list::read_head` meets its contract. The loop's invariant: the first `at` fields are read, and their numbers stand at the front.
 -- The measure is how many fields are left. Assumes nothing.
-use Prim.Native.Nat.{◌-◌}
 use native.Mathlib.Omega.{arith}
-use lib.ListN.{length}
-use borrow.Author.Rules.{rules}
-use Rattle.list.specs.Measures.{head_amounts}
 use Rattle.list.proofs.Amounts.{part_length}
 use Rattle.list.proofs.Fields.{next_of_head}
-use Rattle.list.proofs.Numbers.{Front, begun, one_more, stopped, finished}
+use Rattle.list.proofs.Numbers.{begun, one_more, stopped, finished}
 use Rattle.list.proofs.read_head.Goals as goal
 
 pub loop-at-init : goal.loop-at-init

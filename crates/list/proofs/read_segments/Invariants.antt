@@ -1,10 +1,8 @@
 -- `list::read_segments` meets its contract. The loop's invariant: the segments before `at` are read, and their numbers stand at the
 -- front. The measure is how many fields are left. Assumes nothing.
 use Prim.Native.Nat.{◌-◌}
-use native.Mathlib.Omega.{arith}
 use lib.ListN.{length}
-use borrow.Author.Rules.{rules}
-use Rattle.list.proofs.Segments.{Passed, begins, ends, room_for_segment, few, same_after, stops, turns}
+use Rattle.list.proofs.Segments.{Passed}
 use Rattle.list.proofs.read_segments.Given as goal
 
 abbrev pub invariant-loop-at : goal.invariant-loop-at
