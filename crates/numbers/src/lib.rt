@@ -1,4 +1,6 @@
 // Numbers in a host's bytes.
+#![tactic(auto)]
+
 ghost use Rattle.std.specs.Prelude.{◌≡◌, map, min, ◌≤◌, length, take};
 ghost use Rattle.fields.specs.Outcomes.{over};
 ghost use Rattle.list.specs.Lists.{list_outcome};
@@ -116,6 +118,7 @@ fn read_by(list: &[u8], doubles: &mut [f64], fields: &mut [u64; MOST_FIELDS]) ->
 }
 
 // Reads a list from its bytes: its numbers go to the front of `fields`, all of them or those before the first field that is refused.
+#[tactic(auto, unfolding(crate::specs::Numbers::bytes_outcome))]
 pub fn read_list_bytes(list: &[u8], fields: &mut [u64; MOST_FIELDS]) -> Reading
     ensures value { result ≡ (bytes_outcome list.now).reading }
     ensures fields_after { fields.new ≡ over (bytes_outcome list.now).numbers fields.old }
