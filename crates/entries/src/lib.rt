@@ -1,4 +1,6 @@
 // The two entries: a card or a list of doubles, over lent buffers of any length. Their one promise is the record `Promise`.
+#![tactic(auto)]
+
 ghost use Rattle.card.specs.Card.{card_outcome};
 ghost use Rattle.list.specs.Lists.{list_outcome};
 ghost use Rattle.entries.specs.Promise.{Promise};
