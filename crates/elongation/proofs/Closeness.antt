@@ -9,7 +9,7 @@ use native.Mathlib.Omega.{arith}
 use lib.Dec.{lit<}
 use lib.ListN.{length, get_or, drop}
 use Rattle.fraction.specs.Fraction.{Fraction, whole, ◌⊕◌, ◌⊗◌, ◌÷◌, ◌≼◌, Within}
-use Rattle.fraction.specs.Equality.{◌≈◌, over}
+use Rattle.fraction.specs.Equality.{◌≈◌}
 use Rattle.fraction.proofs.Laws.{≈-refl, ≈-sym, ◌⨾◌, ≼_refl, ≼_trans, ≼-of-≈, ⊕-cong, ⊕-mono, ⊗-cong, ⊗-mono, ⊗-comm, whole-⊕}
 use Rattle.fraction.proofs.Floors.{whole_order, whole_not_negative, over_times}
 use Rattle.fraction.proofs.Quotients.{quotient, quotient_not_negative, quotient_order}

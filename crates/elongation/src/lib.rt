@@ -1,5 +1,7 @@
 // The elongation sheet: how far the strand comes out at the jack, segment by segment of the path. Its one promise is the record
 // `SheetPromise`.
+#![tactic(auto)]
+
 ghost use Rattle.card.specs.Card.{card_outcome};
 ghost use Rattle.elongation.specs.Promise.{SheetPromise};
 

@@ -22,6 +22,7 @@ fn elongation(es: u64, before: u64, after: u64, length: u64) -> u64
 
 // Writes the elongations of so many segments to the front of `sheet`; their sum. Each segment begins with the stress that the one before
 // it leaves.
+#[tactic(auto, using(crate::proofs::Walk::listed))]
 pub(crate) fn stretch(fields: &[u64; MOST_FIELDS], segments: usize, sheet: &mut [u64]) -> u64
     requires { Stretchable segments fields.now sheet.old }
     ensures { Stretched (quantities_of segments 0 fields.now) result sheet.new sheet.old }

@@ -9,10 +9,6 @@ use Rattle.stages.proofs.Clocks.{end_bounded}
 use Rattle.entries.proofs.Running.{begins, ends, moments_most, hour_fits, room_for_row, stops, turns}
 use Rattle.entries.proofs.ages.run_ages.Goals as goal
 
--- ---- the turn of the loop in which an interval is passed
-
--- ---- the needs
-
 pub loop-passed-init : goal.loop-passed-init
 loop-passed-init c =
     let args = c.args in

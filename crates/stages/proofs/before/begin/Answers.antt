@@ -11,10 +11,6 @@ use Rattle.stages.specs.Given.{seated_given}
 use Rattle.stages.proofs.before.begin.Goals as goal
 use Rattle.stages.proofs.before.begin.Goals.{After-after, After-after-2, After-after-3, In-Number, In-Number-after, In-Seats}
 
--- ---- the places after which a stress is left, and what it then is
-
--- ---- the needs
-
 pub returns-in-Refused : goal.returns-in-Refused
 unfolding begun_of
 returns-in-Refused c =
