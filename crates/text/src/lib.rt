@@ -1,4 +1,6 @@
 // What the programs `report` and `sheet` print, laid out in a lent buffer: numbers in columns of 14, right-justified behind spaces.
+#![tactic(auto)]
+
 ghost use Rattle.std.specs.Prelude.{take};
 ghost use Rattle.fields.specs.Outcomes.{Gives};
 ghost use Rattle.fields.specs.Quantities.{quantities_of};
