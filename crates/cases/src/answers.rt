@@ -7,66 +7,69 @@ use elongation::SheetAnswer;
 use entries::Answer;
 use fields::limits::{MOST_AGES, MOST_FIELDS, PER_ROW};
 use fields::refusal::{Reading, Refusal};
-use libc::STDOUT_FILENO;
 use stages::before::BeforeAges;
 use text::{MOST_LINE_BYTES, MOST_PER_LINE};
 
 // Numbers that a report, a scratch or a sheet is lent at most.
 const MOST_ROOM: usize = 4096;
 
-fn print_numbers(numbers: &[u64]) {
+fn print_numbers(rt: &impl Print, numbers: &[u64]) {
     let mut line = [0u8; MOST_LINE_BYTES];
     let bytes = text::line_of(numbers, &mut line);
-    io::write_all(STDOUT_FILENO, &line[..bytes]);
+    let _ = rt.write_all(&line[..bytes]);
 }
 
-fn print_refusal(refusal: Refusal) {
+fn print_refusal(rt: &impl Print, refusal: Refusal) {
     let mut line = [0u8; MOST_LINE_BYTES];
     let bytes = text::line_of_refusal(refusal, &mut line);
-    io::write_all(STDOUT_FILENO, &line[..bytes]);
+    let _ = rt.write_all(&line[..bytes]);
 }
 
-fn print_before(before: BeforeAges) {
+fn print_before(rt: &impl Print, before: BeforeAges) {
     let mut line = [0u8; MOST_LINE_BYTES];
     let bytes = text::line_before_ages(before, &mut line);
-    io::write_all(STDOUT_FILENO, &line[..bytes]);
+    let _ = rt.write_all(&line[..bytes]);
 }
 
 // The bits of a double, as one decimal number; of a NaN, an empty line.
-fn print_bits(double: f64) {
+fn print_bits(rt: &impl Print, double: f64) {
     if double == double {
-        io::print_decimal(STDOUT_FILENO, f64::to_bits(double));
+        let bits = f64::to_bits(double);
+        let _ = print!(rt; "{bits}");
     }
-    io::write_all(STDOUT_FILENO, &[LINE_FEED]);
+    let _ = rt.write_all(&[LINE_FEED]);
 }
 
 // A line for each row of a report.
-fn print_rows(report: &[u64; MOST_ROOM], ages: u64) {
+fn print_rows(rt: &impl Print, report: &[u64; MOST_ROOM], ages: u64) {
     if (MOST_AGES as u64) < ages {
         return;
     }
     let mut row = 0usize;
     let mut age = 0u64;
     while age < ages {
-        print_numbers(&[
-            report[row],
-            report[row + 1],
-            report[row + 2],
-            report[row + 3],
-            report[row + 4],
-        ]);
+        print_numbers(
+            rt,
+            &[
+                report[row],
+                report[row + 1],
+                report[row + 2],
+                report[row + 3],
+                report[row + 4],
+            ],
+        );
         row += PER_ROW;
         age += 1;
     }
 }
 
 // The rows of an accepted list: how many there are is read off the list once more.
-fn print_rows_of(list: &[f64], report: &[u64; MOST_ROOM]) {
+fn print_rows_of(rt: &impl Print, list: &[f64], report: &[u64; MOST_ROOM]) {
     let mut numbers = [0u64; MOST_FIELDS];
     let Reading::Fields(_, ages) = list::read_list(list, &mut numbers) else {
         return;
     };
-    print_rows(report, ages);
+    print_rows(rt, report, ages);
 }
 
 // A room, or the most that there is.
@@ -78,20 +81,20 @@ fn room_of(room: usize) -> usize
 
 // A list's answer, with room for so many numbers in report and scratch: number and place, 0 and 0 if it is accepted; then the
 // losses before the ages and the stress after them, the bits of the last stress as a double, and a line for each age's row.
-pub(crate) fn print_list(list: &[f64], report_room: usize, scratch_room: usize) {
+pub(crate) fn print_list(rt: &impl Print, list: &[f64], report_room: usize, scratch_room: usize) {
     let mut report = [0u64; MOST_ROOM];
     let mut scratch = [0u64; MOST_ROOM];
     let lent = room_of(report_room);
     let spare = room_of(scratch_room);
     match entries::run_list(list, &mut report[..lent], &mut scratch[..spare]) {
-        Answer::Refused(refusal) => print_refusal(refusal),
+        Answer::Refused(refusal) => print_refusal(rt, refusal),
         Answer::Accepted(reply) => {
             let before = reply.before;
             let last = reply.last;
-            print_numbers(&[0, 0]);
-            print_before(before);
-            print_bits(last);
-            print_rows_of(list, &report);
+            print_numbers(rt, &[0, 0]);
+            print_before(rt, before);
+            print_bits(rt, last);
+            print_rows_of(rt, list, &report);
         }
     }
 }
@@ -100,38 +103,38 @@ pub(crate) fn print_list(list: &[f64], report_room: usize, scratch_room: usize) 
 const UNWRITTEN: u64 = 9_999_999_999_999;
 
 // The numbers of a lent buffer, as many to a line as a line has.
-fn print_lent(lent: &[u64])
+fn print_lent(rt: &impl Print, lent: &[u64])
     requires { length lent.now ≤ most_room }
 {
     let mut at = 0usize;
     while at < lent.len() {
-        print_numbers(&lent[at..]);
+        print_numbers(rt, &lent[at..]);
         at += MOST_PER_LINE;
     }
 }
 
 // Number and place, 0 and 0 if a sheet is accepted; then its sum and its measurable part.
-fn print_total(answer: SheetAnswer) {
+fn print_total(rt: &impl Print, answer: SheetAnswer) {
     match answer {
-        SheetAnswer::Refused(refusal) => print_refusal(refusal),
+        SheetAnswer::Refused(refusal) => print_refusal(rt, refusal),
         SheetAnswer::Accepted(total) => {
-            print_numbers(&[0, 0]);
-            print_numbers(&[total.sum, total.measurable]);
+            print_numbers(rt, &[0, 0]);
+            print_numbers(rt, &[total.sum, total.measurable]);
         }
     }
 }
 
 // A card's sheet: its answer, and then, also of a refused one, every number of the lent buffer.
-fn print_sheet_in(card: &[u8], lent: &mut [u64])
+fn print_sheet_in(rt: &impl Print, card: &[u8], lent: &mut [u64])
     requires { length lent.old ≤ most_room }
 {
-    print_total(elongation::elongation_sheet(card, lent));
-    print_lent(lent);
+    print_total(rt, elongation::elongation_sheet(card, lent));
+    print_lent(rt, lent);
 }
 
 // The same, with room for so many numbers.
-pub(crate) fn print_sheet(card: &[u8], room: usize) {
+pub(crate) fn print_sheet(rt: &impl Print, card: &[u8], room: usize) {
     let mut sheet = [UNWRITTEN; MOST_ROOM];
     let lent = room_of(room);
-    print_sheet_in(card, &mut sheet[..lent]);
+    print_sheet_in(rt, card, &mut sheet[..lent]);
 }

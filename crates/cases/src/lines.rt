@@ -5,13 +5,18 @@ ghost use Rattle.std.specs.Prelude.{◌<◌};
 
 use crate::answers::{print_list, print_sheet};
 use fields::limits::MOST_FIELDS;
+use std::fs;
+use std::io::Read;
+use std::rt::Files;
 use text::MOST_READ_BYTES;
 
 // One more than the longest good list has. Doubles past it are ignored: a list of more has a wrong length, and so have its first doubles.
 const MOST_DOUBLES: usize = MOST_FIELDS + 1;
 
-// Reads of a file at most.
+// Reads of a file at most, and the bytes of each but the last.
 const MOST_READS: usize = 65536;
+
+const READ_BYTES: usize = 4096;
 
 // What the bytes of a line are.
 const ROOM: u64 = 0;
@@ -184,10 +189,11 @@ impl Line {
     }
 
     // The run of a line's list.
-    fn run(self, list: &[f64]) {
+    fn run(self, rt: &impl Print, list: &[f64]) {
         let kept = self.kept;
         if kept <= list.len() {
             print_list(
+                rt,
                 &list[..kept],
                 self.room as usize,
                 self.scratch_room as usize,
@@ -196,31 +202,32 @@ impl Line {
     }
 
     // The sheet of a line's card.
-    fn stretch(self, card: &[u8]) {
+    fn stretch(self, rt: &impl Print, card: &[u8]) {
         let kept = self.kept;
         if kept <= card.len() {
-            print_sheet(&card[..kept], self.room as usize);
+            print_sheet(rt, &card[..kept], self.room as usize);
         }
     }
 
     // A list is run and a sheet made at the end of its line.
-    fn end(self, list: &[f64], card: &[u8]) {
+    fn end(self, rt: &impl Print, list: &[f64], card: &[u8]) {
         if self.part == ANSWER_OF_SHEET {
-            self.stretch(card);
+            self.stretch(rt, card);
             return;
         }
-        self.run(list);
+        self.run(rt, list);
     }
 
     // Past any byte.
     fn past(
         self,
+        rt: &impl Print,
         byte: u8,
         list: &mut [f64; MOST_DOUBLES],
         card: &mut [u8; MOST_READ_BYTES],
     ) -> Line {
         if byte == LINE_FEED {
-            self.end(list, card);
+            self.end(rt, list, card);
             return Line::begun();
         }
         if byte == SPACE {
@@ -235,6 +242,7 @@ impl Line {
 
 // Past the bytes of a part of the file.
 fn past_all(
+    rt: &impl Print,
     part: &[u8],
     line: Line,
     list: &mut [f64; MOST_DOUBLES],
@@ -242,40 +250,39 @@ fn past_all(
 ) -> Line {
     let mut read = line;
     for at in 0..part.len() {
-        read = read.past(part[at], list, card);
+        read = read.past(rt, part[at], list, card);
     }
     read
 }
 
 // Each line of an open file.
-fn run_file(file: i32) {
+fn run_file<F: Read>(rt: &impl Print, file: &mut F) {
     let mut list = [0.0; MOST_DOUBLES];
     let mut card = [0u8; MOST_READ_BYTES];
     let mut line = Line::begun();
-    let mut chunk = io::buffer();
+    let mut chunk = [0u8; READ_BYTES];
     for _ in 0..MOST_READS {
-        let count = io::read_full(file, &mut chunk);
+        let count = input::read_full(file, &mut chunk);
         if count == 0 {
             return;
         }
-        line = past_all(&chunk[..count], line, &mut list, &mut card);
+        line = past_all(rt, &chunk[..count], line, &mut list, &mut card);
     }
 }
 
-fn run_named(name: &[u8]) {
-    let file = os::open_read(name);
-    if file < 0 {
-        os::fail(name);
-        return;
+fn run_named(rt: &(impl Files + Print + Eprint), name: &str) {
+    match fs::open(rt, name) {
+        Ok(mut file) => run_file(rt, &mut file),
+        Err(error) => {
+            let _ = eprintln!(rt; "{name}: {error}");
+        }
     }
-    run_file(file);
-    libc::close(file);
 }
 
-pub(crate) fn run_lists() {
-    run_named(b"lists.txt");
+pub(crate) fn run_lists(rt: &(impl Files + Print + Eprint)) {
+    run_named(rt, "lists.txt");
 }
 
-pub(crate) fn run_sheets() {
-    run_named(b"sheets.txt");
+pub(crate) fn run_sheets(rt: &(impl Files + Print + Eprint)) {
+    run_named(rt, "sheets.txt");
 }

@@ -1,16 +1,16 @@
 // The sheet program: a card on standard input, its elongation sheet in ticks of inch on standard output.
-use libc::{STDERR_FILENO, STDIN_FILENO, STDOUT_FILENO};
+#![tactic(auto)]
+
 use text::{MOST_READ_BYTES, MOST_TEXT_BYTES, Program};
 
-fn main() {
-    let mut input = [0u8; MOST_READ_BYTES];
-    let read = io::read_full(STDIN_FILENO, &mut input);
+fn main(rt: HostRuntime) {
+    let mut card = [0u8; MOST_READ_BYTES];
+    let read = input::read_full(&mut rt.stdin(), &mut card);
     let mut text = [0u8; MOST_TEXT_BYTES];
-    let bytes = text::text_of_input(Program::Sheet, &input, read, &mut text);
-    if !io::write_all(STDOUT_FILENO, &text[..bytes]) {
-        io::write_all(
-            STDERR_FILENO,
-            b"sheet: the answer could not be written whole\n",
-        );
+    let bytes = text::text_of_input(Program::Sheet, &card, read, &mut text);
+    if rt.write_all(&text[..bytes]).is_err() {
+        let _ = rt
+            .stderr()
+            .write_all(b"sheet: the answer could not be written whole\n");
     }
 }
