@@ -1,4 +1,6 @@
-// The two entries for C hosts, on numbers and byte slices. Their one promise is the record `Served`.
+// The two entries for C hosts, on numbers and byte slices; `stratelyn_c` exports them. Their one promise is the record `Served`.
+#![tactic(auto)]
+
 ghost use Rattle.card.specs.Card.{card_outcome};
 ghost use Rattle.numbers.specs.Numbers.{bytes_outcome};
 ghost use Rattle.stratelyn.specs.Hosts.{Served};
@@ -12,8 +14,7 @@ use run::REPLY_BYTES;
 const REPLY_TOO_SHORT: u64 = 10;
 
 // The run of a card, as bytes.
-#[unsafe(no_mangle)]
-pub extern "C" fn stratelyn_run_card(
+pub fn stratelyn_run_card(
     card: &[u8],
     report: &mut [u8],
     scratch: &mut [u8],
@@ -31,8 +32,7 @@ pub extern "C" fn stratelyn_run_card(
 }
 
 // The run of a list of doubles, by their bits.
-#[unsafe(no_mangle)]
-pub extern "C" fn stratelyn_run_list(
+pub fn stratelyn_run_list(
     list: &[u8],
     report: &mut [u8],
     scratch: &mut [u8],
