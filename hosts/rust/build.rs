@@ -1,4 +1,4 @@
-//! Links the archive that `rt staticlib stratelyn` writes, and gives the wrapper the numbers of the C header.
+//! Links the archive that hosts/archive writes, and gives the wrapper the numbers of the C header.
 use std::path::{Path, PathBuf};
 use std::{env, fs};
 
@@ -26,7 +26,7 @@ fn main() {
     let out = PathBuf::from(env::var_os("OUT_DIR").expect("cargo names a folder"));
     fs::write(out.join("header.rs"), constants).expect("cargo's folder is there");
     let archives = root.join("target/staticlib");
-    needed(archives.join("libstratelyn.a"), "which `rt staticlib stratelyn` writes");
+    needed(archives.join("libstratelyn.a"), "which hosts/archive writes");
     println!("cargo:rustc-link-search=native={}", archives.display());
     println!("cargo:rustc-link-lib=static=stratelyn");
 }

@@ -1,4 +1,4 @@
-//! The programs that `rt check` writes, from the hosts' side: a process for each card.
+//! The programs as `rt ci` builds them, from the hosts' side: a process for each card.
 
 use std::io::Write;
 use std::path::{Path, PathBuf};
@@ -9,8 +9,8 @@ use std::thread;
 const THREADS: usize = 2;
 
 pub fn program(name: &str) -> PathBuf {
-    let program = Path::new(env!("CARGO_MANIFEST_DIR")).join("../../target/bin").join(name);
-    assert!(program.is_file(), "there is no {}, which `rt check {name}` writes", program.display());
+    let program = Path::new(env!("CARGO_MANIFEST_DIR")).join(format!("../../crates/{name}/out/{name}"));
+    assert!(program.is_file(), "there is no {}, which `rt ci` writes, or `rt run` in the crate's folder", program.display());
     program
 }
 
