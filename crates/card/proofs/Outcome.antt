@@ -1,5 +1,5 @@
 -- What the reader of a card leaves at each of its answers: lines 1 to 4, the two counts, the lines that they announce, and what
--- stands behind. Each group of lines is what `read_lines-append` says of it. Assumes nothing.
+-- stands behind. Each group of lines is what `read_lines_append` says of it. Assumes nothing.
 use mathlib.Core.Path.{◌≡◌, sym, ap, ◌∙◌}
 use mathlib.Core.Bool.{cond}
 use mathlib.Core.List.{List, ◌++◌}

@@ -1,4 +1,4 @@
--- The theorem `slip-as-before` rests on it. Where a card's slip stands, and when it is blank: document 02, W2.
+-- The theorem `slip_as_before` rests on it. Where a card's slip stands, and when it is blank: document 02, W2.
 use Rattle.std.specs.Prelude.{ℕ, ◌-◌, ◌*◌, ◌≡◌, List, ◌++◌, take, drop, replicate}
 use Rattle.fields.specs.Quantities.{columns, field_number}
 use Rattle.line.specs.Lines.{space}

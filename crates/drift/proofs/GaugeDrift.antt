@@ -1,4 +1,4 @@
--- The theorem `gauge-drift`. What keeps the promise and has the number of what is accepted is what a run gave, since a refusal has another
+-- The theorem `gauge_drift`. What keeps the promise and has the number of what is accepted is what a run gave, since a refusal has another
 -- number; and the runs of two inputs that are read as two such members are the two runs of `TwoRuns`, as the readers range the counts.
 -- Assumes nothing.
 use mathlib.Core.Path.{◌≡◌, refl, sym, ◌∙◌}

@@ -1,4 +1,4 @@
--- The theorem `gauge-drift` rests on it. Two runs of one member whose jacking stress two gauges read, as one statement: document 02, W8.
+-- The theorem `gauge_drift` rests on it. Two runs of one member whose jacking stress two gauges read, as one statement: document 02, W8.
 use Rattle.std.specs.Prelude.{ℕ, suc, ◌+◌, ◌-◌, ◌*◌, ◌≤◌, ◌<◌, ◌≡◌, Bool, false, cond, List, eqb, length, get_or}
 use Rattle.fraction.specs.Fraction.{whole, Within}
 use Rattle.ticks.specs.Ticks.{ticks_per_unit}
@@ -27,7 +27,7 @@ abbrev pub follows_path : Quantities → Bool
 follows_path q = dies_out (friction_loss (jacked q) (friction_of q)) (path_length_of q)
 
 -- two members that have all in common but their jacking stress, and whose slip goes over the tendon: if the one's does, so does the other's
--- (law `same-rule`)
+-- (law `same_rule`)
 pub record TwoGauges (q p : Quantities) : Type 0 where
   pub field : ℕ → ℕ
   pub path : List Segment

@@ -1,4 +1,4 @@
--- The theorem `gauge-drift` rests on it: this is the theorem. What is carried is carried through what the entries return: document 02, W8,
+-- The theorem `gauge_drift` rests on it: this is the theorem. What is carried is carried through what the entries return: document 02, W8,
 -- "This is wanted for the code as it is".
 use Rattle.std.specs.Prelude.{ℕ, ◌≡◌, List, Float, length}
 use Rattle.fields.specs.Outcomes.{Outcome, Gives}

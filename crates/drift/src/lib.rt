@@ -1,2 +1,4 @@
+#![tactic(auto)]
+
 // How far apart two runs of one member are whose jacking stress two gauges read: the statement is in specs/, its proof in proofs/. Nothing
 // runs.

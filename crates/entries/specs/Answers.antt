@@ -48,7 +48,7 @@ abbrev pub answer_values : Answer → List ℕ
 answer_values (Answer.Accepted reply) = acceptance_values reply.before reply.last
 answer_values (Answer.Refused refusal) = refusal_values refusal
 
--- ---- an answer has the number and the values of the one that the run gives, which decide it (laws `refusal-number`, `one-refusal`)
+-- ---- an answer has the number and the values of the one that the run gives, which decide it (laws `refusal_number`, `one_refusal`)
 
 abbrev pub answer_of : OrRefusal Report → Answer
 answer_of (Gives report) = Answer.Accepted (record { before = report.before; last = double_of report.last })

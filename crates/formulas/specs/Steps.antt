@@ -29,7 +29,7 @@ pub record IsDropAtJack (d es slip path_length z : ℕ) : Type 0 where
   pub covered : slip_covers d es slip path_length z ≡ true
   pub next_not_covered : slip_covers d es slip path_length (suc z) ≡ false
 
--- Z itself: where the path has a length it is such a number by the law `is-drop`, and no other is by `one-drop`; the slip covers none above
+-- Z itself: where the path has a length it is such a number by the law `is_drop`, and no other is by `one_drop`; the slip covers none above
 -- the right side
 unfoldable pub drop_at_jack : (d es slip path_length : ℕ) → ℕ
 unfolding largest_up_to

@@ -11,7 +11,7 @@
 --   A ⊑ B     a proof of a ≼ b
 --   A ≐ B     a proof of a ≈ b, used as a ≼ b
 --   h ⊛ k     a pair, a proof of h and one of k. For l ≼ r and l' ≼ r' the hint is that (r − l) (r' − l') is not negative.
--- A hint that is wanted twice stands there twice. Of `larger` it knows nothing: go by `larger-cases` first.
+-- A hint that is wanted twice stands there twice. Of `larger` it knows nothing: go by `larger_cases` first.
 -- `identity` shows a ≈ b of two that are the same polynomial. Assumes nothing.
 use mathlib.Core.List.{List, [], ◌∷◌}
 use Prim.Native.Nat.{ℕ, ◌+◌}

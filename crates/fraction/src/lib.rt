@@ -1,1 +1,3 @@
+#![tactic(auto)]
+
 // Fractions are only spoken of, never computed: specs/Fraction.antt says what one is, proofs/ has the laws.

@@ -1,4 +1,4 @@
--- The theorem `slip-as-before`. Each promise decides what a host sees, and speaks of a card by what it gives alone; so cards that give
+-- The theorem `slip_as_before`. Each promise decides what a host sees, and speaks of a card by what it gives alone; so cards that give
 -- the same have the same run, and which do are the laws of `card`. Assumes nothing.
 use Prim.Native.Nat.{ℕ}
 use mathlib.Core.Path.{◌≡◌, refl, sym, ◌∙◌}

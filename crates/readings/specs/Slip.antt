@@ -1,4 +1,4 @@
--- The theorem `slip-as-before` rests on it. A core that reads a blank slip as it was read before, and this one: which cards have the same
+-- The theorem `slip_as_before` rests on it. A core that reads a blank slip as it was read before, and this one: which cards have the same
 -- run by both, and what a yard writes where they have not: document 02, W2.
 use Rattle.std.specs.Prelude.{ℕ, ◌≡◌, List}
 use Rattle.fields.specs.Outcomes.{Outcome}

@@ -1,5 +1,5 @@
 -- The core's stresses stay near the exact ones. At the same whole stress the core's step is near the exact one, and the exact step
--- brings no two stresses further apart; so after one step more the distance is at most one step's allowance more, `step-close`. The
+-- brings no two stresses further apart; so after one step more the distance is at most one step's allowance more, `step_close`. The
 -- steps after slip may be entered with any exact stress that is near the core's, after any count of steps before. Assumes nothing.
 use mathlib.Core.Path.{◌≡◌}
 use mathlib.Core.List.{List, ◌∷◌}

@@ -19,7 +19,7 @@ use Rattle.tolerance.specs.Method.{Choice, Admissible, table_choice}
 abbrev pub most_above : ℕ
 most_above = 1
 
--- L of the service life, as `at-service-life` has it
+-- L of the service life, as `at_service_life` has it
 abbrev life_logarithm : ℕ
 life_logarithm = 1444
 

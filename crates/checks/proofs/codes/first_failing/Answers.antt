@@ -5,7 +5,6 @@ use Rattle.checks.proofs.Rows.{joined}
 use Rattle.checks.proofs.RowPlaces.{head_codes_placed, path_codes_placed}
 use Rattle.checks.proofs.Items.{listed}
 use native.Mathlib.Omega.{arith}
-use borrow.Author.Rules.{rules}
 use Rattle.checks.proofs.codes.first_failing.Goals as goal
 
 pub of_segments-path-requires : goal.of_segments-path-requires

@@ -2,15 +2,14 @@
 -- nothing.
 use mathlib.Core.Path.{◌≡◌, sym, ap, ◌∙◌}
 use mathlib.Core.List.{List, [], ◌∷◌, ◌++◌}
-use Prim.Native.Nat.{ℕ, ◌+◌, ◌-◌, ◌*◌, ◌≤◌, ◌<◌}
+use Prim.Native.Nat.{ℕ, ◌+◌, ◌*◌, ◌<◌}
 use native.Mathlib.Nat.{add-zero}
-use Rattle.fields.specs.Quantities.{per_segment, bend, segments_from}
+use Rattle.fields.specs.Quantities.{per_segment, bend}
 use Rattle.fields.specs.Limits.{range}
-use Rattle.checks.specs.Rows.{Check, at, first_failing, within, segment_codes}
+use Rattle.checks.specs.Rows.{at, first_failing, within, segment_codes}
 use Rattle.checks.proofs.Rows.{begins, next_at, Turn, stops, goes_on}
-use Rattle.checks.proofs.Items.{left_segments, segment_at, all_segments, next_segment, no_segment}
+use Rattle.checks.proofs.Items.{segment_at, all_segments, next_segment, no_segment}
 use native.Mathlib.Omega.{arith}
-use borrow.Author.Rules.{rules}
 use Rattle.checks.proofs.codes.of_segments.Invariants.{row_of, left}
 use Rattle.checks.proofs.codes.of_segments.Goals as goal
 use Rattle.checks.proofs.codes.of_segments.Goals.{After-first-failing}

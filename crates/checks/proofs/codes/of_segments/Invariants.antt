@@ -1,16 +1,11 @@
 -- At the loop's head the row's place is the one that the segments left give. A turn makes the first of their checks. Assumes
 -- nothing.
-use mathlib.Core.Path.{◌≡◌, sym, ap, ◌∙◌}
-use mathlib.Core.List.{List, [], ◌∷◌, ◌++◌}
-use Prim.Native.Nat.{ℕ, ◌+◌, ◌-◌, ◌*◌, ◌≤◌, ◌<◌}
-use native.Mathlib.Nat.{add-zero}
-use Rattle.fields.specs.Quantities.{per_segment, bend, segments_from}
-use Rattle.fields.specs.Limits.{range}
-use Rattle.checks.specs.Rows.{Check, at, first_failing, within, segment_codes}
-use Rattle.checks.proofs.Rows.{begins, next_at, Turn, stops, goes_on}
-use Rattle.checks.proofs.Items.{left_segments, segment_at, all_segments, next_segment, no_segment}
-use native.Mathlib.Omega.{arith}
-use borrow.Author.Rules.{rules}
+use mathlib.Core.Path.{◌≡◌}
+use mathlib.Core.List.{List}
+use Prim.Native.Nat.{ℕ, ◌+◌, ◌-◌, ◌*◌, ◌≤◌}
+use Rattle.fields.specs.Quantities.{per_segment, segments_from}
+use Rattle.checks.specs.Rows.{Check, first_failing, segment_codes}
+use Rattle.checks.proofs.Items.{left_segments}
 use Rattle.checks.proofs.codes.of_segments.Given as goal
 
 abbrev pub row_of : List ℕ → ℕ → ℕ → ℕ

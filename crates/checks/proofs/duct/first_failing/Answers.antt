@@ -1,6 +1,5 @@
 -- The two checks are made in their order. Assumes nothing.
 use mathlib.Core.Path.{refl}
-use borrow.Author.Rules.{rules}
 use Rattle.checks.proofs.Rows.{begins, next}
 use Rattle.checks.proofs.duct.first_failing.Goals as goal
 

@@ -8,7 +8,6 @@ use Rattle.checks.proofs.Rows.{begins, next, joined}
 use Rattle.checks.proofs.RowPlaces.{ages_placed}
 use Rattle.checks.proofs.Items.{listed}
 use native.Mathlib.Omega.{arith}
-use borrow.Author.Rules.{rules}
 use Rattle.checks.proofs.hours.first_failing.Goals as goal
 
 pub of_ages-requires : goal.of_ages-requires

@@ -3,16 +3,15 @@
 use mathlib.Core.Path.{◌≡◌, sym, ap, ◌∙◌}
 use mathlib.Core.List.{List, [], ◌∷◌, ◌++◌}
 use mathlib.Core.Bool.{◌&&◌}
-use Prim.Native.Nat.{ℕ, ◌+◌, ◌-◌, ◌*◌, ◌≤◌, ◌<◌}
+use Prim.Native.Nat.{ℕ, ◌+◌, ◌*◌, ◌<◌}
 use native.Mathlib.Nat.{add-zero}
 use lib.Dec.{leb, ltb}
 use Rattle.logarithm.specs.Logarithm.{service_life}
-use Rattle.fields.specs.Quantities.{per_age, ages_from}
-use Rattle.checks.specs.Rows.{Check, at, first_failing, hours_of_ages}
+use Rattle.fields.specs.Quantities.{per_age}
+use Rattle.checks.specs.Rows.{at, first_failing, hours_of_ages}
 use Rattle.checks.proofs.Rows.{begins, next_at, Turn, stops, goes_on}
-use Rattle.checks.proofs.Items.{left_ages, age_at, all_ages, next_age, no_age}
+use Rattle.checks.proofs.Items.{age_at, all_ages, next_age, no_age}
 use native.Mathlib.Omega.{arith}
-use borrow.Author.Rules.{rules}
 use Rattle.checks.proofs.hours.of_ages.Invariants.{row_of, left}
 use Rattle.checks.proofs.hours.of_ages.Goals as goal
 use Rattle.checks.proofs.hours.of_ages.Goals.{After-first-failing}

@@ -1,18 +1,11 @@
 -- At the loop's head the row's place is the one that the ages left give, from the hour before them. A turn makes the first of
 -- their checks. Assumes nothing.
-use mathlib.Core.Path.{◌≡◌, sym, ap, ◌∙◌}
-use mathlib.Core.List.{List, [], ◌∷◌, ◌++◌}
-use mathlib.Core.Bool.{◌&&◌}
-use Prim.Native.Nat.{ℕ, ◌+◌, ◌-◌, ◌*◌, ◌≤◌, ◌<◌}
-use native.Mathlib.Nat.{add-zero}
-use lib.Dec.{leb, ltb}
-use Rattle.logarithm.specs.Logarithm.{service_life}
+use mathlib.Core.Path.{◌≡◌}
+use mathlib.Core.List.{List}
+use Prim.Native.Nat.{ℕ, ◌+◌, ◌-◌, ◌*◌, ◌≤◌}
 use Rattle.fields.specs.Quantities.{per_age, ages_from}
-use Rattle.checks.specs.Rows.{Check, at, first_failing, hours_of_ages}
-use Rattle.checks.proofs.Rows.{begins, next_at, Turn, stops, goes_on}
-use Rattle.checks.proofs.Items.{left_ages, age_at, all_ages, next_age, no_age}
-use native.Mathlib.Omega.{arith}
-use borrow.Author.Rules.{rules}
+use Rattle.checks.specs.Rows.{Check, first_failing, hours_of_ages}
+use Rattle.checks.proofs.Items.{left_ages}
 use Rattle.checks.proofs.hours.of_ages.Given as goal
 
 abbrev pub row_of : List ℕ → ℕ → ℕ → ℕ → ℕ

@@ -9,7 +9,6 @@ use Rattle.checks.proofs.RowPlaces.{line_1_placed, line_2_placed, line_3_placed,
 use Rattle.checks.proofs.RowPlaces.{moments_placed}
 use Rattle.checks.proofs.Items.{listed}
 use native.Mathlib.Omega.{arith}
-use borrow.Author.Rules.{rules}
 use Rattle.checks.proofs.ranges.first_failing.Goals as goal
 
 pub of_segments-path-requires : goal.of_segments-path-requires

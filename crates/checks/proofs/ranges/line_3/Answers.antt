@@ -2,7 +2,6 @@
 use mathlib.Core.Path.{refl}
 use Rattle.fields.specs.Quantities.{field_number}
 use Rattle.checks.proofs.Rows.{begins, next}
-use borrow.Author.Rules.{rules}
 use Rattle.checks.proofs.ranges.line_3.Goals as goal
 
 pub returns : goal.returns

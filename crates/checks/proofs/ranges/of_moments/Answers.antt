@@ -2,17 +2,16 @@
 -- most 2^40, so it fits. Assumes nothing.
 use mathlib.Core.Path.{◌≡◌, sym, ap, ◌∙◌}
 use mathlib.Core.List.{List, [], ◌∷◌, ◌++◌}
-use Prim.Native.Nat.{ℕ, ◌+◌, ◌-◌, ◌*◌, ◌≤◌, ◌<◌}
+use Prim.Native.Nat.{ℕ, ◌+◌, ◌*◌, ◌≤◌, ◌<◌}
 use native.Mathlib.Nat.{add-zero}
 use borrow.Author.Tests.{leb-true}
 use lib.Dec.{leb}
-use Rattle.fields.specs.Quantities.{per_age, ages_from}
+use Rattle.fields.specs.Quantities.{per_age}
 use Rattle.fields.specs.Limits.{most_moment}
-use Rattle.checks.specs.Rows.{Check, at, first_failing, ranges_of_moments}
+use Rattle.checks.specs.Rows.{at, first_failing, ranges_of_moments}
 use Rattle.checks.proofs.Rows.{begins, next_at, Turn, stops, goes_on, passed}
-use Rattle.checks.proofs.Items.{left_ages, age_at, all_ages, next_age, no_age}
+use Rattle.checks.proofs.Items.{age_at, all_ages, next_age, no_age}
 use native.Mathlib.Omega.{arith}
-use borrow.Author.Rules.{rules}
 use Rattle.checks.proofs.ranges.of_moments.Invariants.{row_of, left}
 use Rattle.checks.proofs.ranges.of_moments.Goals as goal
 use Rattle.checks.proofs.ranges.of_moments.Goals.{After-first-failing, Else-failing-ne0}

@@ -1,18 +1,11 @@
 -- At the loop's head the row's place is the one that the ages left give, from the sum so far. A sum that passes its check is at
 -- most 2^40, so it fits. Assumes nothing.
-use mathlib.Core.Path.{◌≡◌, sym, ap, ◌∙◌}
-use mathlib.Core.List.{List, [], ◌∷◌, ◌++◌}
-use Prim.Native.Nat.{ℕ, ◌+◌, ◌-◌, ◌*◌, ◌≤◌, ◌<◌}
-use native.Mathlib.Nat.{add-zero}
-use borrow.Author.Tests.{leb-true}
-use lib.Dec.{leb}
+use mathlib.Core.Path.{◌≡◌}
+use mathlib.Core.List.{List}
+use Prim.Native.Nat.{ℕ, ◌+◌, ◌-◌, ◌*◌, ◌≤◌}
 use Rattle.fields.specs.Quantities.{per_age, ages_from}
-use Rattle.fields.specs.Limits.{most_moment}
-use Rattle.checks.specs.Rows.{Check, at, first_failing, ranges_of_moments}
-use Rattle.checks.proofs.Rows.{begins, next_at, Turn, stops, goes_on, passed}
-use Rattle.checks.proofs.Items.{left_ages, age_at, all_ages, next_age, no_age}
-use native.Mathlib.Omega.{arith}
-use borrow.Author.Rules.{rules}
+use Rattle.checks.specs.Rows.{Check, first_failing, ranges_of_moments}
+use Rattle.checks.proofs.Items.{left_ages}
 use Rattle.checks.proofs.ranges.of_moments.Given as goal
 
 abbrev pub row_of : List ℕ → ℕ → ℕ → ℕ → ℕ

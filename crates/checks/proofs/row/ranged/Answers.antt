@@ -1,5 +1,4 @@
 -- The single check is whether the field lies in its range. Assumes nothing.
-use borrow.Author.Rules.{rules}
 use Rattle.checks.proofs.row.ranged.Goals as goal
 
 pub returns : goal.returns
