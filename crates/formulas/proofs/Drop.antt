@@ -26,7 +26,7 @@ module _ (d es slip path_length : ℕ) (some_path : 1 ≤ path_length) where
   abbrev most : ℕ
   most = 4 * d * (es * ticks_per_unit) * slip
 
-  -- Z²-as-P
+  -- Z²·P
   abbrev taken : ℕ → ℕ
   taken z = z * z * (12 * path_length)
 

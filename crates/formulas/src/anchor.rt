@@ -8,7 +8,7 @@ ghost use Rattle.formulas.specs.Roots.{Root, Further, FurtherFits};
 use crate::{INCHES_TO_A_FOOT, difference};
 use ticks::TICKS_PER_UNIT;
 
-// Both sides of Z².P <= 4·d·Es·slip over 4: this many inches are left of each foot of P.
+// Both sides of Z²·P <= 4·d·Es·slip over 4: this many inches are left of each foot of P.
 const QUARTER_OF_A_FOOT: u64 = INCHES_TO_A_FOOT / 4;
 
 // The root of 1,024.

@@ -233,7 +233,7 @@ reached = record { creep = 1769838; shrinkage = 4438425; relaxation = 858339; st
 abbrev pub creep_clock : ℕ → HoursSinceTransfer
 creep_clock hours = record { 0 = hours }
 
--- the double 0.153, 0x3_fC395810624_dD2_f: its exponent and its fraction
+-- the double 0.153, 0x3FC395810624DD2F: its exponent and its fraction
 abbrev pub double0153 : ℕ
 double0153 = 1020 * 2 ^ 52 + 1008806316530991
 

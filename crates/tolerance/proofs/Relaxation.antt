@@ -63,7 +63,7 @@ inner_error_by δ = whole 1 ⊕ whole most_per_logarithm ⊗ whole δ
 abbrev relaxation_error : ℕ
 relaxation_error = 20
 
--- a unit of the logarithm: f·q/(D-as-T) at the highest, 37,553; rounded up
+-- a unit of the logarithm: f·q/(D·T) at the highest, 37,553; rounded up
 abbrev logarithm_error : ℕ
 logarithm_error = 37600
 

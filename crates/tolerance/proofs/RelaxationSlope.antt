@@ -1,4 +1,4 @@
--- How relaxation in fractions depends on the stress: up to 1.1·Y it has slope 15/16. The loss is a multiple l = ΔL/(D-as-T) of the
+-- How relaxation in fractions depends on the stress: up to 1.1·Y it has slope 15/16. The loss is a multiple l = ΔL/(D·T) of the
 -- stress times a hinge, q, whose line rises by T/Y. So its slope up to 1.1·Y is at most l·(2·1.1 T − 0.55 T), and l is at most
 -- 1445/(2560·T): 0.9314. Assumes nothing.
 use mathlib.Core.List.{[], ◌∷◌}
