@@ -151,6 +151,12 @@ module _ {m : Member} {fields : List ℕ} {first : ℕ} {old scratch : List ℕ}
     abbrev at : ℕ
     at = per_row * passed
 
+    pub row_within : at + per_row ≤ length scratch
+    row_within =
+        let r = p.room in
+        let k = p.kept in
+        omega arith
+
     pub room_for_row : per_row ≤ length (mid_of at (length scratch - at) scratch)
     room_for_row =
         let r = p.room in

@@ -53,6 +53,7 @@ fn shortening(m: Member, transfer: End, stress: u64) -> u64
 }
 
 // The losses before the ages. The stress is looked at after each.
+#[tactic(auto, unfolding(crate::specs::Run::begun_of))]
 pub fn begin(m: Member, transfer: End) -> Begun
     requires { BeginFits m transfer }
     ensures { begun_given result ≡ begun_of m }

@@ -15,7 +15,6 @@ use Rattle.member.specs.Member.{friction_of}
 use Rattle.member.proofs.Laws.{path_fits}
 use native.Mathlib.Omega.{arith}
 use Rattle.member.proofs.check_duct.Goals as goal
-use Rattle.member.proofs.check_duct.Goals.{After-first_failing-failing, After-path_friction-friction, Start}
 
 of_same : (pretensioned : Bool) {place segments segments₀ friction friction₀ : ℕ}
     → place ≡ first_failing (duct pretensioned segments friction) → segments ≡ segments₀ → friction ≡ friction₀
@@ -34,8 +33,7 @@ path_friction-friction-requires c =
 
 pub returns-then-failing-ne0 : goal.returns-then-failing-ne0
 returns-then-failing-ne0 c =
-    let quantities : Quantities =
-    quantities_of c.args.segments 0 c.args.fields.now in
+    let quantities : Quantities = quantities_of c.args.segments 0 c.args.fields.now in
     let friction_is : c.path_friction-friction.result ≡ friction_of quantities =
     let q = quantities in
     c.path_friction-friction.ensures
@@ -49,8 +47,7 @@ returns-then-failing-ne0 c =
 
 pub returns : goal.returns
 returns c =
-    let quantities : Quantities =
-    quantities_of c.args.segments 0 c.args.fields.now in
+    let quantities : Quantities = quantities_of c.args.segments 0 c.args.fields.now in
     let friction_is : c.path_friction-friction.result ≡ friction_of quantities =
     let q = quantities in
     c.path_friction-friction.ensures

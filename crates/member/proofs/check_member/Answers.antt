@@ -10,7 +10,6 @@ use Rattle.checks.proofs.Cascade.{in_parts, given_is}
 use Rattle.member.specs.Member.{friction_of, member_of, duct_row, codes_to_duct, buffers_to_creep, checked_of}
 use Rattle.member.proofs.Laws.{by_rows, to_hours, head_alone}
 use Rattle.member.proofs.check_member.Goals as goal
-use Rattle.member.proofs.check_member.Goals.{In-Number-2, Start}
 
 -- the whole, once what is above and at the duct is made
 whole : (q : Quantities) (report scratch : ℕ) {to_duct : OrRefusal ℕ} → to_duct ≡ checked_by (codes_to_duct q) (friction_of q)
@@ -20,8 +19,7 @@ whole q report scratch e =
 
 pub check_below_duct-requires : goal.check_below_duct-requires
 check_below_duct-requires c =
-    let quantities : Quantities =
-    quantities_of c.args.segments c.args.ages c.args.fields.now in
+    let quantities : Quantities = quantities_of c.args.segments c.args.ages c.args.fields.now in
     let ducted : checked_by (codes_to_duct quantities) (friction_of quantities)
     ≡ Gives c.in-Number.friction =
     sym c.check_to_duct.ensures ∙ ap number_given c.in-Number.is in
@@ -37,8 +35,7 @@ check_below_duct-requires c =
 
 pub returns-in-Number : goal.returns-in-Number
 returns-in-Number c =
-    let quantities : Quantities =
-    quantities_of c.args.segments c.args.ages c.args.fields.now in
+    let quantities : Quantities = quantities_of c.args.segments c.args.ages c.args.fields.now in
     let ducted : checked_by (codes_to_duct quantities) (friction_of quantities)
     ≡ Gives c.in-Number.friction =
     sym c.check_to_duct.ensures ∙ ap number_given c.in-Number.is in
@@ -47,7 +44,6 @@ returns-in-Number c =
 
 pub returns-in-Refused : goal.returns-in-Refused
 returns-in-Refused c =
-    let quantities : Quantities =
-    quantities_of c.args.segments c.args.ages c.args.fields.now in
+    let quantities : Quantities = quantities_of c.args.segments c.args.ages c.args.fields.now in
     whole quantities c.args.report c.args.scratch
     (sym (ap number_given c.in-Refused.is) ∙ c.check_to_duct.ensures)

@@ -9,7 +9,6 @@ use Rattle.checks.proofs.Cascade.{in_parts}
 use Rattle.member.specs.Member.{friction_of, codes_to_hours, duct_row, codes_to_duct}
 use Rattle.member.proofs.Laws.{to_hours, head_alone}
 use Rattle.member.proofs.check_to_duct.Goals as goal
-use Rattle.member.proofs.check_to_duct.Goals.{In-Hold, Start}
 
 -- the whole, once what is above the duct is made
 whole : (q : Quantities) {above : OrRefusal (Unit {0})} → above ≡ checked_by (codes_to_hours q) tt
@@ -18,8 +17,7 @@ whole q e = rw e (sym (in_parts (codes_to_hours q) (duct_row q ∷ []) tt (frict
 
 pub check_duct-requires : goal.check_duct-requires
 check_duct-requires c =
-    let quantities : Quantities =
-    quantities_of c.args.segments c.args.ages c.args.fields.now in
+    let quantities : Quantities = quantities_of c.args.segments c.args.ages c.args.fields.now in
     let held : checked_by {A = Unit {0}} (codes_to_hours quantities) tt ≡ Gives tt =
     sym c.check_to_hours.ensures ∙ ap rows_given c.in-Hold.is in
     let args = c.args in
@@ -32,14 +30,12 @@ check_duct-requires c =
 
 pub returns-in-Hold : goal.returns-in-Hold
 returns-in-Hold c =
-    let quantities : Quantities =
-    quantities_of c.args.segments c.args.ages c.args.fields.now in
+    let quantities : Quantities = quantities_of c.args.segments c.args.ages c.args.fields.now in
     let held : checked_by {A = Unit {0}} (codes_to_hours quantities) tt ≡ Gives tt =
     sym c.check_to_hours.ensures ∙ ap rows_given c.in-Hold.is in
     c.check_duct.ensures ∙ whole quantities (sym held)
 
 pub returns-in-Refused : goal.returns-in-Refused
 returns-in-Refused c =
-    let quantities : Quantities =
-    quantities_of c.args.segments c.args.ages c.args.fields.now in
+    let quantities : Quantities = quantities_of c.args.segments c.args.ages c.args.fields.now in
     whole quantities (sym (ap rows_given c.in-Refused.is) ∙ c.check_to_hours.ensures)

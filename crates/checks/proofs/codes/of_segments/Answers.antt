@@ -12,7 +12,6 @@ use Rattle.checks.proofs.Items.{segment_at, all_segments, next_segment, no_segme
 use native.Mathlib.Omega.{arith}
 use Rattle.checks.proofs.codes.of_segments.Invariants.{row_of, left}
 use Rattle.checks.proofs.codes.of_segments.Goals as goal
-use Rattle.checks.proofs.codes.of_segments.Goals.{After-first-failing}
 
 split : (list : List ℕ) (n place k : ℕ) → k < n
     → left list n place k

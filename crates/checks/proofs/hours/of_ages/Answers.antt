@@ -14,7 +14,6 @@ use Rattle.checks.proofs.Items.{age_at, all_ages, next_age, no_age}
 use native.Mathlib.Omega.{arith}
 use Rattle.checks.proofs.hours.of_ages.Invariants.{row_of, left}
 use Rattle.checks.proofs.hours.of_ages.Goals as goal
-use Rattle.checks.proofs.hours.of_ages.Goals.{After-first-failing}
 
 split : (list : List ℕ) (n place earlier k : ℕ) → k < n → let hour = (age_at list k).hour in
     left list n place earlier k

@@ -14,7 +14,6 @@ use Rattle.checks.proofs.Items.{age_at, all_ages, next_age, no_age}
 use native.Mathlib.Omega.{arith}
 use Rattle.checks.proofs.ranges.of_moments.Invariants.{row_of, left}
 use Rattle.checks.proofs.ranges.of_moments.Goals as goal
-use Rattle.checks.proofs.ranges.of_moments.Goals.{After-first-failing, Else-failing-ne0}
 
 split : (list : List ℕ) (n place moments k : ℕ) → k < n → let sum = moments + (age_at list k).moment in
     left list n place moments k ≡ (at (place + per_age * k + 1) (leb sum most_moment) ∷ []) ++ left list n place sum (k + 1)

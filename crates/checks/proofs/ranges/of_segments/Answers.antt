@@ -11,7 +11,6 @@ use Rattle.checks.proofs.Items.{segment_at, all_segments, next_segment, no_segme
 use native.Mathlib.Omega.{arith}
 use Rattle.checks.proofs.ranges.of_segments.Invariants.{row_of, left}
 use Rattle.checks.proofs.ranges.of_segments.Goals as goal
-use Rattle.checks.proofs.ranges.of_segments.Goals.{After-first-failing-in-loop-segment}
 
 split : (list : List ℕ) (n place k : ℕ) → k < n → let here = place + per_segment * k in
     left list n place k

@@ -9,27 +9,22 @@ use Rattle.checks.specs.Rows.{checked_by}
 use Rattle.elongation.specs.Sheet.{room_row, below_hours}
 use Rattle.elongation.proofs.Passing.{kind_refuses, below_kind, below_duct, room_refuses, room_holds}
 use Rattle.elongation.proofs.checking.check_below_hours.Goals as goal
-use Rattle.elongation.proofs.checking.check_below_hours.Goals.{In_default, Start}
 
 pub returns-then-fields-eq-PRETENSIONED : goal.returns-then-fields-eq-PRETENSIONED
 returns-then-fields-eq-PRETENSIONED c =
-    let quantities : Quantities =
-    quantities_of c.args.segments 0 c.args.fields.now in
+    let quantities : Quantities = quantities_of c.args.segments 0 c.args.fields.now in
     kind_refuses quantities _ c.if-fields-eq-PRETENSIONED.true
 
 pub returns-in-Refused : goal.returns-in-Refused
 returns-in-Refused c =
-    let quantities : Quantities =
-    quantities_of c.args.segments 0 c.args.fields.now in
+    let quantities : Quantities = quantities_of c.args.segments 0 c.args.fields.now in
     below_duct quantities c.args.room (sym (ap number_given c.in-Refused.is) ∙ c.check_duct.ensures)
     ∙ below_kind quantities c.args.room c.if-fields-eq-PRETENSIONED.false
 
 pub returns-then-room-segments : goal.returns-then-room-segments
 returns-then-room-segments c =
-    let quantities : Quantities =
-    quantities_of c.args.segments 0 c.args.fields.now in
-    let count : length quantities.path ≡ c.args.segments =
-    segments_length c.args.segments (drop head_fields c.args.fields.now) in
+    let quantities : Quantities = quantities_of c.args.segments 0 c.args.fields.now in
+    let count : length quantities.path ≡ c.args.segments = segments_length c.args.segments (drop head_fields c.args.fields.now) in
     let above_room : checked_by {A = Unit {0}} (room_row quantities c.args.room ∷ []) tt
     ≡ checked_by {A = Unit {0}} (below_hours quantities c.args.room) tt =
     below_duct quantities c.args.room (sym (ap number_given c.in_default.is) ∙ c.check_duct.ensures)
@@ -38,10 +33,8 @@ returns-then-room-segments c =
 
 pub returns : goal.returns
 returns c =
-    let quantities : Quantities =
-    quantities_of c.args.segments 0 c.args.fields.now in
-    let count : length quantities.path ≡ c.args.segments =
-    segments_length c.args.segments (drop head_fields c.args.fields.now) in
+    let quantities : Quantities = quantities_of c.args.segments 0 c.args.fields.now in
+    let count : length quantities.path ≡ c.args.segments = segments_length c.args.segments (drop head_fields c.args.fields.now) in
     let above_room : checked_by {A = Unit {0}} (room_row quantities c.args.room ∷ []) tt
     ≡ checked_by {A = Unit {0}} (below_hours quantities c.args.room) tt =
     below_duct quantities c.args.room (sym (ap number_given c.in_default.is) ∙ c.check_duct.ensures)

@@ -11,7 +11,6 @@ use Rattle.member.specs.Member.{codes_to_hours}
 use Rattle.member.proofs.Laws.{to_hours, head_alone}
 use Rattle.elongation.specs.Sheet.{below_hours, sheet_rows}
 use Rattle.elongation.proofs.checking.check_sheet.Goals as goal
-use Rattle.elongation.proofs.checking.check_sheet.Goals.{In-Hold, Start}
 
 -- the whole, once what is above the sheet's own rows is made
 whole : (q : Quantities) (room : ℕ) {above : OrRefusal (Unit {0})} → above ≡ checked_by (codes_to_hours q) tt
@@ -20,8 +19,7 @@ whole q room e = rw e (sym (in_parts (codes_to_hours q) (below_hours q room) (tt
 
 pub check_below_hours-requires : goal.check_below_hours-requires
 check_below_hours-requires c =
-    let quantities : Quantities =
-    quantities_of c.args.segments c.args.ages c.args.fields.now in
+    let quantities : Quantities = quantities_of c.args.segments c.args.ages c.args.fields.now in
     let held : checked_by {A = Unit {0}} (codes_to_hours quantities) tt ≡ Gives tt =
     sym c.check_to_hours.ensures ∙ ap rows_given c.in-Hold.is in
     let args = c.args in
@@ -34,15 +32,13 @@ check_below_hours-requires c =
 
 pub returns-in-Hold : goal.returns-in-Hold
 returns-in-Hold c =
-    let quantities : Quantities =
-    quantities_of c.args.segments c.args.ages c.args.fields.now in
+    let quantities : Quantities = quantities_of c.args.segments c.args.ages c.args.fields.now in
     let held : checked_by {A = Unit {0}} (codes_to_hours quantities) tt ≡ Gives tt =
     sym c.check_to_hours.ensures ∙ ap rows_given c.in-Hold.is in
     c.check_below_hours.ensures ∙ whole quantities c.args.room (sym held)
 
 pub returns-in-Refused : goal.returns-in-Refused
 returns-in-Refused c =
-    let quantities : Quantities =
-    quantities_of c.args.segments c.args.ages c.args.fields.now in
+    let quantities : Quantities = quantities_of c.args.segments c.args.ages c.args.fields.now in
     whole quantities c.args.room
     (sym (ap rows_given c.in-Refused.is) ∙ c.check_to_hours.ensures)

@@ -13,14 +13,11 @@ use Rattle.elongation.specs.Sheet.{sheet_rows}
 use Rattle.elongation.proofs.Passing.{passed}
 use Rattle.elongation.proofs.Answering.{row_refuses, rows_hold}
 use Rattle.elongation.proofs.sheet.of_fields.Goals as goal
-use Rattle.elongation.proofs.sheet.of_fields.Goals.{In-Hold, Start}
 
 pub stretch-sum-requires : goal.stretch-sum-requires
 stretch-sum-requires c =
-    let quantities : Quantities =
-    quantities_of c.args.segments c.args.ages c.args.fields.now in
-    let room : ℕ =
-    length c.args.sheet.now in
+    let quantities : Quantities = quantities_of c.args.segments c.args.ages c.args.fields.now in
+    let room : ℕ = length c.args.sheet.now in
     let held : checked_by {A = Unit {0}} (sheet_rows quantities room) tt ≡ Gives tt =
     sym c.check_sheet.ensures ∙ ap rows_given c.in-Hold.is in
     let args = c.args in
@@ -41,18 +38,14 @@ overflow_mul-result c = let most = c.stretch-sum.ensures.sum_most in omega arith
 
 pub returns-in-Refused : goal.returns-in-Refused
 returns-in-Refused c =
-    let quantities : Quantities =
-    quantities_of c.args.segments c.args.ages c.args.fields.now in
-    let room : ℕ =
-    length c.args.sheet.now in
+    let quantities : Quantities = quantities_of c.args.segments c.args.ages c.args.fields.now in
+    let room : ℕ = length c.args.sheet.now in
     row_refuses quantities room c.check_sheet.ensures _ _ (ap rows_given c.in-Refused.is)
 
 pub returns-in-Hold : goal.returns-in-Hold
 returns-in-Hold c =
-    let quantities : Quantities =
-    quantities_of c.args.segments c.args.ages c.args.fields.now in
-    let room : ℕ =
-    length c.args.sheet.now in
+    let quantities : Quantities = quantities_of c.args.segments c.args.ages c.args.fields.now in
+    let room : ℕ = length c.args.sheet.now in
     let done = c.stretch-sum.ensures in
     rows_hold quantities room c.check_sheet.ensures _ _ _
     (ap rows_given c.in-Hold.is) (record { sum_is = done.sum_is; sum_most = done.sum_most; sheet_is = done.sheet_is })

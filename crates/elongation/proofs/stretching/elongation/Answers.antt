@@ -7,7 +7,6 @@ use native.Mathlib.Omega.{arith}
 use Rattle.ticks.specs.Ticks.{ticks_per_unit}
 use Rattle.fields.specs.Limits.{most_length}
 use Rattle.elongation.proofs.stretching.elongation.Goals as goal
-use Rattle.elongation.proofs.stretching.elongation.Goals.{Start}
 
 pub overflow_mul-result-2 : goal.overflow_mul-result-2
 overflow_mul-result-2 c =

@@ -1,12 +1,8 @@
 -- The invariant is `Progress`: the rows of the ages before stand in the scratch, and the ages from here on decide the rest. An age
 -- that is passed keeps it; the loop ends with the last age, or where one is refused. Assumes nothing.
 use native.Mathlib.Omega.{arith}
-use Prim.Native.Nat.{◌+◌, ◌*◌, ◌≤◌}
-use lib.ListN.{length}
-use Rattle.fields.specs.Limits.{most_moment, per_row}
-use Rattle.checks.proofs.Items.{age_at}
 use Rattle.stages.proofs.Clocks.{end_bounded}
-use Rattle.entries.proofs.Running.{begins, ends, moments_most, hour_fits, room_for_row, stops, turns}
+use Rattle.entries.proofs.Running.{begins, ends, moments_most, hour_fits, row_within, room_for_row, stops, turns}
 use Rattle.entries.proofs.ages.run_ages.Goals as goal
 
 pub loop-passed-init : goal.loop-passed-init
@@ -25,24 +21,18 @@ bounds-fields-field-in-loop-passed c = let listed = c.requires.ages_fit.listed i
 
 pub overflow_add-moments-in-loop-passed : goal.overflow_add-moments-in-loop-passed
 overflow_add-moments-in-loop-passed c =
-    let moments_within : let loop = c.loop-passed in
-    loop.start.moments + (age_at c.args.fields.now loop.passed).moment ≤ most_moment =
-    moments_most c.loop-passed.invariant c.loop-passed-test.true in
+    let moments_within = moments_most c.loop-passed.invariant c.loop-passed-test.true in
     omega (arith, moments_within)
 
 pub end_at-end-requires : goal.end_at-end-requires
 end_at-end-requires c =
-    let moments_within : let loop = c.loop-passed in
-    loop.start.moments + (age_at c.args.fields.now loop.passed).moment ≤ most_moment =
-    moments_most c.loop-passed.invariant c.loop-passed-test.true in
+    let moments_within = moments_most c.loop-passed.invariant c.loop-passed-test.true in
     let asked = c.requires in
     record { member = asked.ages_fit.bounded; table = asked.thresholds_are; moments_fit = moments_within }
 
 pub pass-requires : goal.pass-requires
 pass-requires c =
-    let moments_within : let loop = c.loop-passed in
-    loop.start.moments + (age_at c.args.fields.now loop.passed).moment ≤ most_moment =
-    moments_most c.loop-passed.invariant c.loop-passed-test.true in
+    let moments_within = moments_most c.loop-passed.invariant c.loop-passed-test.true in
     record {
       member = c.requires.ages_fit.bounded;
       stress_fits = c.loop-passed.invariant.stress_fits;
@@ -60,58 +50,23 @@ returns-in-Refused c =
 
 pub overflow_mul-at : goal.overflow_mul-at
 overflow_mul-at c =
-    let row_within : let loop = c.loop-passed in
-    per_row * loop.passed + per_row ≤ length loop.scratch =
-    let inv = c.loop-passed.invariant in
-    let room = inv.room in
-    let kept = inv.kept in
-    let more = c.loop-passed-test.true in
-    omega arith in
-    omega (arith, row_within)
+    omega (arith, row_within c.loop-passed.invariant c.loop-passed-test.true)
 
 pub offset_bounds-scratch-at : goal.offset_bounds-scratch-at
 offset_bounds-scratch-at c =
-    let row_within : let loop = c.loop-passed in
-    per_row * loop.passed + per_row ≤ length loop.scratch =
-    let inv = c.loop-passed.invariant in
-    let room = inv.room in
-    let kept = inv.kept in
-    let more = c.loop-passed-test.true in
-    omega arith in
-    omega (arith, row_within)
+    omega (arith, row_within c.loop-passed.invariant c.loop-passed-test.true)
 
 pub slice_bounds-write_row-count : goal.slice_bounds-write_row-count
 slice_bounds-write_row-count c =
-    let row_within : let loop = c.loop-passed in
-    per_row * loop.passed + per_row ≤ length loop.scratch =
-    let inv = c.loop-passed.invariant in
-    let room = inv.room in
-    let kept = inv.kept in
-    let more = c.loop-passed-test.true in
-    omega arith in
-    omega (arith, row_within)
+    omega (arith, row_within c.loop-passed.invariant c.loop-passed-test.true)
 
 pub slice_bounds-write_row-start : goal.slice_bounds-write_row-start
 slice_bounds-write_row-start c =
-    let row_within : let loop = c.loop-passed in
-    per_row * loop.passed + per_row ≤ length loop.scratch =
-    let inv = c.loop-passed.invariant in
-    let room = inv.room in
-    let kept = inv.kept in
-    let more = c.loop-passed-test.true in
-    omega arith in
-    omega (arith, row_within)
+    omega (arith, row_within c.loop-passed.invariant c.loop-passed-test.true)
 
 pub slice_bounds-write_row-end : goal.slice_bounds-write_row-end
 slice_bounds-write_row-end c =
-    let row_within : let loop = c.loop-passed in
-    per_row * loop.passed + per_row ≤ length loop.scratch =
-    let inv = c.loop-passed.invariant in
-    let room = inv.room in
-    let kept = inv.kept in
-    let more = c.loop-passed-test.true in
-    omega arith in
-    omega (arith, row_within)
+    omega (arith, row_within c.loop-passed.invariant c.loop-passed-test.true)
 
 pub write_row-requires : goal.write_row-requires
 write_row-requires c =

@@ -9,7 +9,6 @@ use Rattle.member.specs.Checking.{checked as given_by}
 use Rattle.entries.proofs.Accepting.{runs, answers}
 use Rattle.entries.proofs.Answering.{refused_early}
 use Rattle.entries.proofs.run.run_fields.Goals as goal
-use Rattle.entries.proofs.run.run_fields.Goals.{In-Accepted}
 
 pub run_member-requires : goal.run_member-requires
 run_member-requires c =

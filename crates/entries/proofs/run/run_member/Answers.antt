@@ -7,7 +7,6 @@ use Rattle.stages.specs.Run.{begun_of}
 use Rattle.stages.specs.Given.{begun_given}
 use Rattle.entries.proofs.Answering.{last_fits, none_begins, none_left, all_passed}
 use Rattle.entries.proofs.run.run_member.Goals as goal
-use Rattle.entries.proofs.run.run_member.Goals.{In-Begins}
 
 pub returns-in-Refused : goal.returns-in-Refused
 returns-in-Refused c =
@@ -17,8 +16,7 @@ returns-in-Refused c =
 
 pub run_ages-requires : goal.run_ages-requires
 run_ages-requires c =
-    let begun : begun_of c.args.m ≡ Gives c.in-Begins.losses =
-    sym c.begin.ensures ∙ ap begun_given c.in-Begins.is in
+    let begun : begun_of c.args.m ≡ Gives c.in-Begins.losses = sym c.begin.ensures ∙ ap begun_given c.in-Begins.is in
     let asked = c.requires in
     record {
       ages_fit = asked.ages_fit;
@@ -39,16 +37,14 @@ overflow_cast-last c =
 
 pub returns-in-Refused-run_ages : goal.returns-in-Refused-run_ages
 returns-in-Refused-run_ages c =
-    let begun : begun_of c.args.m ≡ Gives c.in-Begins.losses =
-    sym c.begin.ensures ∙ ap begun_given c.in-Begins.is in
+    let begun : begun_of c.args.m ≡ Gives c.in-Begins.losses = sym c.begin.ensures ∙ ap begun_given c.in-Begins.is in
     let args = c.args in
     none_left args.m (ages_from args.m.ages args.fields.now) args.report.now args.scratch.now _ begun
     _ _ c.run_ages.ensures _ c.in-Refused-run_ages.is
 
 pub returns-in-Number : goal.returns-in-Number
 returns-in-Number c =
-    let begun : begun_of c.args.m ≡ Gives c.in-Begins.losses =
-    sym c.begin.ensures ∙ ap begun_given c.in-Begins.is in
+    let begun : begun_of c.args.m ≡ Gives c.in-Begins.losses = sym c.begin.ensures ∙ ap begun_given c.in-Begins.is in
     let args = c.args in
     all_passed args.m (ages_from args.m.ages args.fields.now) args.report.now args.scratch.now _ begun
     _ _ c.run_ages.ensures _ _ _ c.in-Number.is c.double_of_ticks.ensures c.report_rows.ensures

@@ -7,7 +7,6 @@ use Rattle.coefficient.specs.Coefficients.{ucr, scf}
 use Rattle.coefficient.proofs.Laws.{ucr_range, scf_range}
 use Rattle.member.proofs.Bounds.{products, creep_product, creep_most}
 use Rattle.member.proofs.section.whole_creep.Goals as goal
-use Rattle.member.proofs.section.whole_creep.Goals.{After-mcf_of-mcf}
 
 pub overflow_mul-result : goal.overflow_mul-result
 overflow_mul-result c =

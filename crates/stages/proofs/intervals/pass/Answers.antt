@@ -1,19 +1,8 @@
 -- The sum of the three losses fits, since each does with room to spare, and so does the gain. Each answer follows from what `after` and
 -- `lifted` gave, which the definition looks at in the same order. Assumes nothing.
-use mathlib.Core.Path.{◌≡◌, sym, ap, ◌∙◌}
-use Prim.Native.Nat.{◌≤◌}
 use native.Mathlib.Omega.{arith}
-use Rattle.fields.specs.Outcomes.{Gives}
-use Rattle.fields.specs.Given.{number_given}
-use Rattle.formulas.specs.Conditions.{most_gain}
-use Rattle.formulas.proofs.Laws.{gain_most}
-use Rattle.stages.proofs.Leaving.{left_fits}
-use Rattle.stages.proofs.Passing.{LossesFit, losses_fit, gain_asks, row_refused, row_is}
-use Rattle.stages.specs.Run.{after, together}
+use Rattle.stages.proofs.Passing.{LossesFit, losses_fit}
 use Rattle.stages.proofs.intervals.pass.Goals as goal
-use Rattle.stages.proofs.intervals.pass.Goals.{After-gain_between-gain, After-lifted, After-losses_between-losses, In-Number}
-
--- ---- where the losses left a stress
 
 pub overflow_add-together : goal.overflow_add-together
 overflow_add-together c =
@@ -28,41 +17,3 @@ overflow_add-together-2 c =
     let args = c.args in
     losses_fit args.m args.stress args.start args.end c.requires _ c.losses_between-losses.ensures in
     omega (arith, fit)
-
-pub returns-in-Refused : goal.returns-in-Refused
-returns-in-Refused c =
-    let args = c.args in
-    row_refused args.m args.number args.stress args.start args.end _ c.losses_between-losses.ensures
-    (sym c.after.ensures ∙ ap number_given c.in-Refused.is)
-
-pub lifted-requires : goal.lifted-requires
-lifted-requires c =
-    let gained_most : c.gain_between-gain.result ≤ most_gain =
-    rw c.gain_between-gain.ensures
-    (gain_most
-    (gain_asks c.args.start (record { member = c.requires.member; end_fits = c.requires.end_fits }))) in
-    let left_is : let args = c.args in
-    after args.number args.stress (together c.losses_between-losses.result) ≡ Gives c.in-Number.left =
-    sym c.after.ensures ∙ ap number_given c.in-Number.is in
-    let asked = c.requires in
-    record {
-      strength_most = asked.member.strength_most;
-      stress_fits = left_fits _ _ _ _ asked.stress_fits left_is;
-      gain_most = omega (arith, gained_most);
-    }
-
--- what the gain makes of the stress that is left, is what the definition has
-pub returns-in-Number-lifted : goal.returns-in-Number-lifted
-returns-in-Number-lifted c =
-    let args = c.args in
-    row_is args.m args.number args.stress args.start args.end _ c.losses_between-losses.ensures _
-    (sym c.after.ensures ∙ ap number_given c.in-Number.is) c.gain_between-gain.ensures
-    (sym (ap number_given c.in-Number-lifted.is) ∙ c.lifted.ensures)
-
--- what the gain makes of the stress that is left, a refusal, is what the definition has
-pub returns-in-Refused-lifted : goal.returns-in-Refused-lifted
-returns-in-Refused-lifted c =
-    let args = c.args in
-    row_is args.m args.number args.stress args.start args.end _ c.losses_between-losses.ensures _
-    (sym c.after.ensures ∙ ap number_given c.in-Number.is) c.gain_between-gain.ensures
-    (sym (ap number_given c.in-Refused-lifted.is) ∙ c.lifted.ensures)

@@ -24,15 +24,13 @@ count segments ages fields few given gives =
 
 pub slice_bounds-put_elongations-end : goal.slice_bounds-put_elongations-end
 slice_bounds-put_elongations-end c =
-    let quantities : Quantities =
-    quantities_of c.args.segments c.args.ages c.args.fields.now in
+    let quantities : Quantities = quantities_of c.args.segments c.args.ages c.args.fields.now in
     let answered = rw c.in-Accepted.is at c.of_fields.ensures in
     sym (lines_count quantities _ (count c.args.segments c.args.ages c.args.fields.now c.requires.readable.segments_most) answered)
 
 pub put_elongations-at-requires : goal.put_elongations-at-requires
 put_elongations-at-requires c =
-    let quantities : Quantities =
-    quantities_of c.args.segments c.args.ages c.args.fields.now in
+    let quantities : Quantities = quantities_of c.args.segments c.args.ages c.args.fields.now in
     let answered = rw c.in-Accepted.is at c.of_fields.ensures in
     let few = c.requires.readable.segments_most in
     let room = c.requires.room in
@@ -46,8 +44,7 @@ slice_bounds-put_line-start c = let within = (counted c.put_elongations-at.ensur
 
 pub put_line-requires : goal.put_line-requires
 put_line-requires c =
-    let quantities : Quantities =
-    quantities_of c.args.segments c.args.ages c.args.fields.now in
+    let quantities : Quantities = quantities_of c.args.segments c.args.ages c.args.fields.now in
     let answered = rw c.in-Accepted.is at c.of_fields.ensures in
     let few = c.requires.readable.segments_most in
     let room = c.requires.room in
@@ -67,8 +64,7 @@ returns-in-Refused c =
 
 pub returns-in-Accepted : goal.returns-in-Accepted
 returns-in-Accepted c =
-    let quantities : Quantities =
-    quantities_of c.args.segments c.args.ages c.args.fields.now in
+    let quantities : Quantities = quantities_of c.args.segments c.args.ages c.args.fields.now in
     let answered = rw c.in-Accepted.is at c.of_fields.ensures in
     sheet_printed quantities _ (count c.args.segments c.args.ages c.args.fields.now c.requires.readable.segments_most) answered
     (holds_then c.put_elongations-at.ensures c.put_line.ensures)
