@@ -1,6 +1,7 @@
 -- The invariant is `Progress`: the rows of the ages before stand in the scratch, and the ages from here on decide the rest. An age
 -- that is passed keeps it; the loop ends with the last age, or where one is refused. Assumes nothing.
 use native.Mathlib.Omega.{arith}
+use Rattle.checks.proofs.Items.{age_at}
 use Rattle.stages.proofs.Clocks.{end_bounded}
 use Rattle.entries.proofs.Running.{begins, ends, moments_most, hour_fits, row_within, room_for_row, stops, turns}
 use Rattle.entries.proofs.ages.run_ages.Goals as goal
@@ -37,7 +38,8 @@ pass-requires c =
       member = c.requires.ages_fit.bounded;
       stress_fits = c.loop-passed.invariant.stress_fits;
       end_fits =
-          rw c.end_at-end.ensures (end_bounded c.args.m _ _ c.requires.ages_fit.bounded moments_within);
+          let hour = (age_at c.args.fields.now c.loop-passed.passed).hour in
+          rw c.end_at-end.ensures (end_bounded c.args.m _ hour c.requires.ages_fit.bounded moments_within);
     }
 
 pub shape_of-scratch-in-Refused : goal.shape_of-scratch-in-Refused
