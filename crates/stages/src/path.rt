@@ -41,7 +41,6 @@ fn slip_at_section(m: Member, friction: u64) -> NumberOrRefusal
 }
 
 // The stress is looked at after each of the two losses, and how far the slip reaches before the second.
-#[tactic(auto, unfolding(crate::specs::Run::seated))]
 pub fn seat(m: Member) -> Seating
     requires { Bounded m }
     ensures { seated_given result ≡ seated m }
