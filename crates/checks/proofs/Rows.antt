@@ -1,6 +1,6 @@
 -- Rows of checks: the first failing place of a row in parts, as its checks are made one by one. Each law goes along the row; no
 -- place is 0, so 0 says that none fails. Assumes nothing.
-use mathlib.Core.Path.{◌≡◌, refl, sym, ◌∙◌}
+use mathlib.Core.Path.{◌≡◌, refl, sym, ◌∙◌, ap}
 use mathlib.Core.Bool.{Bool, true, false, cond}
 use mathlib.Core.List.{List, [], ◌∷◌, ◌++◌}
 use Prim.Native.Nat.{ℕ, ◌<◌}
@@ -62,6 +62,15 @@ pub record Turn (whole found : ℕ) (later : List Check) : Type 0 where
   pub made : List Check
   pub gives : GivesPlace made found
   pub same : whole ≡ first_failing (made ++ later)
+
+-- a turn that makes one check, the first of those that are left
+pub turn_of : {whole found : ℕ} {holds flag : Bool} {rest later : List Check} (place : ℕ) → 0 < place → whole ≡ first_failing rest
+    → rest ≡ (at place holds ∷ []) ++ later → flag ≡ holds → found ≡ or_else 0 (failing (at place flag)) → Turn whole found later
+turn_of place h so_far split is gives = record {
+  made = _;
+  gives = next_at place h begins is gives;
+  same = so_far ∙ ap first_failing split;
+}
 
 module _ {whole found : ℕ} {later : List Check} (t : Turn whole found later) where
   pub stops : (found ≡ 0 → ⊥) → found ≡ whole

@@ -1,16 +1,16 @@
 -- At the loop's head the row's place is the one that the segments left give. A turn makes the first of their checks. Assumes
 -- nothing.
-use mathlib.Core.Path.{◌≡◌, sym, ap, ◌∙◌}
+use mathlib.Core.Path.{◌≡◌, sym, ◌∙◌}
 use mathlib.Core.List.{List, [], ◌∷◌, ◌++◌}
 use Prim.Native.Nat.{ℕ, ◌+◌, ◌*◌, ◌<◌}
 use native.Mathlib.Nat.{add-zero}
 use Rattle.fields.specs.Quantities.{per_segment, bend}
 use Rattle.fields.specs.Limits.{range}
 use Rattle.checks.specs.Rows.{at, first_failing, within, segment_codes}
-use Rattle.checks.proofs.Rows.{begins, next_at, Turn, stops, goes_on}
+use Rattle.checks.proofs.Rows.{turn_of, stops, goes_on}
 use Rattle.checks.proofs.Items.{segment_at, all_segments, next_segment, no_segment}
 use native.Mathlib.Omega.{arith}
-use Rattle.checks.proofs.codes.of_segments.Invariants.{row_of, left}
+use Rattle.checks.proofs.codes.of_segments.Invariants.{left}
 use Rattle.checks.proofs.codes.of_segments.Goals as goal
 
 split : (list : List ℕ) (n place k : ℕ) → k < n
@@ -26,55 +26,23 @@ loop-segment-init c =
     let args = c.args in
     (omega arith, rw (all_segments args.part.now args.segments, add-zero))
 
-pub overflow_mul-at : goal.overflow_mul-at
-overflow_mul-at c = omega arith
-
-pub offset_bounds-part-at : goal.offset_bounds-part-at
-offset_bounds-part-at c = omega arith
-
-pub bounds-part-at : goal.bounds-part-at
-bounds-part-at c = omega arith
-
-pub overflow_add-place : goal.overflow_add-place
-overflow_add-place c = omega arith
-
 pub returns-then-failing-ne0 : goal.returns-then-failing-ne0
 returns-then-failing-ne0 c =
-    let turn : let args = c.args in
-    Turn (row_of args.part.now args.segments args.place) c.first-failing.result
-    (left args.part.now args.segments args.place (c.loop-segment.segment + 1)) =
     let args = c.args in
     let k = c.loop-segment.segment in
-    record {
-      made = _;
-      gives = next_at (args.place + per_segment * k) (omega arith) begins c.in_range-listed.ensures c.first-failing.ensures;
-      same =
-          c.loop-segment.invariant.1
-          ∙ ap first_failing (split args.part.now args.segments args.place k c.loop-segment-test.true);
-    } in
-    stops turn c.if-failing-ne0.true
-
-pub overflow_add-segment : goal.overflow_add-segment
-overflow_add-segment c = omega arith
-
-pub loop-segment-smaller : goal.loop-segment-smaller
-loop-segment-smaller c = omega arith
+    let here =
+    turn_of (args.place + per_segment * k) (omega arith) c.loop-segment.invariant.1
+    (split args.part.now args.segments args.place k c.loop-segment-test.true) c.in_range-listed.ensures c.first-failing.ensures in
+    stops here c.if-failing-ne0.true
 
 pub loop-segment-preserved : goal.loop-segment-preserved
 loop-segment-preserved c =
-    let turn : let args = c.args in
-    Turn (row_of args.part.now args.segments args.place) c.first-failing.result
-    (left args.part.now args.segments args.place (c.loop-segment.segment + 1)) =
     let args = c.args in
     let k = c.loop-segment.segment in
-    record {
-      made = _;
-      gives = next_at (args.place + per_segment * k) (omega arith) begins c.in_range-listed.ensures c.first-failing.ensures;
-      same =
-          c.loop-segment.invariant.1
-          ∙ ap first_failing (split args.part.now args.segments args.place k c.loop-segment-test.true);
-    } in
-    (omega arith, goes_on turn c.if-failing-ne0.false)
+    let here =
+    turn_of (args.place + per_segment * k) (omega arith) c.loop-segment.invariant.1
+    (split args.part.now args.segments args.place k c.loop-segment-test.true) c.in_range-listed.ensures c.first-failing.ensures in
+    (omega arith, goes_on here c.if-failing-ne0.false)
 
 pub returns : goal.returns
 unfolding segment_codes first_failing

@@ -1,6 +1,6 @@
 -- At the loop's head the row's place is the one that the ages left give, from the sum so far. A sum that passes its check is at
 -- most 2^40, so it fits. Assumes nothing.
-use mathlib.Core.Path.{◌≡◌, sym, ap, ◌∙◌}
+use mathlib.Core.Path.{◌≡◌, sym, ◌∙◌}
 use mathlib.Core.List.{List, [], ◌∷◌, ◌++◌}
 use Prim.Native.Nat.{ℕ, ◌+◌, ◌*◌, ◌≤◌, ◌<◌}
 use native.Mathlib.Nat.{add-zero}
@@ -9,10 +9,10 @@ use lib.Dec.{leb}
 use Rattle.fields.specs.Quantities.{per_age}
 use Rattle.fields.specs.Limits.{most_moment}
 use Rattle.checks.specs.Rows.{at, first_failing, ranges_of_moments}
-use Rattle.checks.proofs.Rows.{begins, next_at, Turn, stops, goes_on, passed}
+use Rattle.checks.proofs.Rows.{turn_of, stops, goes_on, passed}
 use Rattle.checks.proofs.Items.{age_at, all_ages, next_age, no_age}
 use native.Mathlib.Omega.{arith}
-use Rattle.checks.proofs.ranges.of_moments.Invariants.{row_of, left}
+use Rattle.checks.proofs.ranges.of_moments.Invariants.{left}
 use Rattle.checks.proofs.ranges.of_moments.Goals as goal
 
 split : (list : List ℕ) (n place moments k : ℕ) → k < n → let sum = moments + (age_at list k).moment in
@@ -27,41 +27,14 @@ loop-age-init c =
     let args = c.args in
     (omega arith, rw (all_ages args.part.now args.ages, add-zero))
 
-pub overflow_mul-at : goal.overflow_mul-at
-overflow_mul-at c = omega arith
-
-pub overflow_add-moment : goal.overflow_add-moment
-overflow_add-moment c = omega arith
-
-pub offset_bounds-part-at : goal.offset_bounds-part-at
-offset_bounds-part-at c = omega arith
-
-pub bounds-part-at : goal.bounds-part-at
-bounds-part-at c = omega arith
-
-pub overflow_add-place : goal.overflow_add-place
-overflow_add-place c = omega arith
-
-pub overflow_add-place-in-loop-age : goal.overflow_add-place-in-loop-age
-overflow_add-place-in-loop-age c = omega arith
-
 pub returns-then-failing-ne0 : goal.returns-then-failing-ne0
 returns-then-failing-ne0 c =
-    let turn : let args = c.args in
-    Turn (row_of args.part.now args.ages args.place args.before) c.first-failing.result
-    (left args.part.now args.ages args.place (c.loop-age.moments + (age_at args.part.now c.loop-age.age).moment)
-    (c.loop-age.age + 1)) =
     let args = c.args in
-    let moments = c.loop-age.moments in
     let k = c.loop-age.age in
-    record {
-      made = _;
-      gives = next_at (args.place + per_age * k + 1) (omega arith) begins c.moment_fits.ensures c.first-failing.ensures;
-      same =
-          c.loop-age.invariant.1
-          ∙ ap first_failing (split args.part.now args.ages args.place moments k c.loop-age-test.true);
-    } in
-    stops turn c.if-failing-ne0.true
+    let here =
+    turn_of (args.place + per_age * k + 1) (omega arith) c.loop-age.invariant.1
+    (split args.part.now args.ages args.place c.loop-age.moments k c.loop-age-test.true) c.moment_fits.ensures c.first-failing.ensures in
+    stops here c.if-failing-ne0.true
 
 pub overflow_add-moments : goal.overflow_add-moments
 overflow_add-moments c =
@@ -74,29 +47,14 @@ overflow_add-moments c =
     (sym fits ∙ passed place c.moment_fits.result (omega arith) c.first-failing.ensures c.if-failing-ne0.false) in
     omega (arith, summed)
 
-pub overflow_add-age : goal.overflow_add-age
-overflow_add-age c = omega arith
-
-pub loop-age-smaller : goal.loop-age-smaller
-loop-age-smaller c = omega arith
-
 pub loop-age-preserved : goal.loop-age-preserved
 loop-age-preserved c =
-    let turn : let args = c.args in
-    Turn (row_of args.part.now args.ages args.place args.before) c.first-failing.result
-    (left args.part.now args.ages args.place (c.loop-age.moments + (age_at args.part.now c.loop-age.age).moment)
-    (c.loop-age.age + 1)) =
     let args = c.args in
-    let moments = c.loop-age.moments in
     let k = c.loop-age.age in
-    record {
-      made = _;
-      gives = next_at (args.place + per_age * k + 1) (omega arith) begins c.moment_fits.ensures c.first-failing.ensures;
-      same =
-          c.loop-age.invariant.1
-          ∙ ap first_failing (split args.part.now args.ages args.place moments k c.loop-age-test.true);
-    } in
-    (omega arith, goes_on turn c.if-failing-ne0.false)
+    let here =
+    turn_of (args.place + per_age * k + 1) (omega arith) c.loop-age.invariant.1
+    (split args.part.now args.ages args.place c.loop-age.moments k c.loop-age-test.true) c.moment_fits.ensures c.first-failing.ensures in
+    (omega arith, goes_on here c.if-failing-ne0.false)
 
 pub returns : goal.returns
 unfolding ranges_of_moments first_failing
