@@ -72,6 +72,3 @@ root_of_ticks-requires c = parts_fit c.requires
 
 pub returns : goal.returns
 returns c = found c.requires c.root_of_ticks.result c.root_of_ticks.ensures
-
-pub overflow_mul-divisor : goal.overflow_mul-divisor
-overflow_mul-divisor c = omega arith

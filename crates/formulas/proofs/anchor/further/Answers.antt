@@ -38,15 +38,6 @@ returns c =
       passed = omega (arith, grows c.args.root (at.reached + at.left) (at.reached + 1) (omega arith));
     }
 
-pub overflow_add-middle : goal.overflow_add-middle
-overflow_add-middle c = omega arith
-
-pub overflow_add-left : goal.overflow_add-left
-overflow_add-left c = omega arith
-
-pub loop-left-smaller : goal.loop-left-smaller
-loop-left-smaller c = omega arith
-
 pub loop-left-preserved : goal.loop-left-preserved
 loop-left-preserved c =
     let root = c.args.root in

@@ -25,21 +25,3 @@ loop-segment-preserved c =
 
 pub returns : goal.returns
 returns c = arrives sums c.loop-segment.invariant c.loop-segment-test.false
-
-pub overflow_mul-length : goal.overflow_mul-length
-overflow_mul-length c = omega arith
-
-pub overflow_add-length : goal.overflow_add-length
-overflow_add-length c = omega arith
-
-pub offset_bounds-part-segment : goal.offset_bounds-part-segment
-offset_bounds-part-segment c = omega arith
-
-pub bounds-part-segment : goal.bounds-part-segment
-bounds-part-segment c = omega arith
-
-pub overflow_add-segment : goal.overflow_add-segment
-overflow_add-segment c = omega arith
-
-pub loop-segment-smaller : goal.loop-segment-smaller
-loop-segment-smaller c = omega arith

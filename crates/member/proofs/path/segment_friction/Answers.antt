@@ -9,9 +9,6 @@ pub curvature_part-requires : goal.curvature_part-requires
 curvature_part-requires c =
     let known = c.requires in record { factor_most = known.curvature_most; segment_fits = known.segment_fits }
 
-pub overflow_add-result : goal.overflow_add-result
-overflow_add-result c = omega arith
-
 pub returns : goal.returns
 returns c =
     let wobbling = c.wobble_part.ensures in
