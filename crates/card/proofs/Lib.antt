@@ -1,4 +1,3 @@
-pub mod Laws
+mod Outcome
 pub mod Behind
 pub mod Slip
-mod Outcome

@@ -1,321 +1,236 @@
--- What the reader of a card leaves at each of its answers: lines 1 to 4, the two counts, the lines that they announce, and what
--- stands behind. Each group of lines is what `read_lines_append` says of it. Assumes nothing.
-use mathlib.Core.Path.{◌≡◌, sym, ap, ◌∙◌}
-use mathlib.Core.Bool.{cond}
+-- What the reader of a card leaves at each of its answers: of the lines of segments and ages, and of the card. Assumes nothing.
+use mathlib.Core.Path.{◌≡◌, refl, sym, ap, ◌∙◌}
 use mathlib.Core.List.{List, ◌++◌}
-use Prim.Native.Nat.{ℕ, ◌+◌, ◌-◌, ◌*◌, ◌≤◌, ◌<◌}
+use Prim.Native.Nat.{ℕ, ◌-◌, ◌*◌, ◌<◌}
 use native.Mathlib.Omega.{arith}
-use lib.Dec.{ltb}
-use lib.ListN.{length, get_or, take, drop, replicate, length-drop, length-replicate, get_or-append}
-use borrow.Author.Tests.{lt-ltb, le-ltb}
+use lib.ListN.{length, get_or, take, drop, replicate, length-append, length-drop, length-replicate, get_or-append}
 use borrow.Rule.Slice.PartMut.{mid_of, put_mid}
-use Rattle.fields.specs.declared.refusal.Refusal.TheVariants.{Shape, Ranges}
-use Rattle.fields.specs.declared.refusal.Reading.{Reading}
-use Rattle.fields.specs.declared.refusal.Reading.TheVariants.{Fields, Not}
-use Rattle.fields.specs.Quantities.{segments_field, ages_field, per_segment, per_age, head_fields, first_segment_field}
-use Rattle.fields.specs.Limits.{most_segments, least_ages, most_ages}
-use Rattle.fields.specs.Sizes.{most_fields}
-use Rattle.fields.specs.Outcomes.{over, Outcome, refused, accepted}
+use Rattle.std.specs.Prelude.{Option, Result, Ok, Err}
+use Rattle.fields.specs.declared.read.Counts.{Counts}
+use Rattle.fields.specs.Quantities.{segments_field, ages_field, per_segment, per_age, head_fields}
+use Rattle.fields.specs.Limits.{most_segments, most_ages}
+use Rattle.fields.specs.declared.refusal.Refusal.{Refusal}
+use Rattle.fields.specs.Outcomes.{OrRefusal, Outcome, refused, accepted, over}
 use Rattle.fields.proofs.Buffers.{length_over, tail, written_behind}
-use Rattle.line.specs.declared.MayBeBlank.{MayBeBlank}
-use Rattle.line.specs.Lines.{line_length, Lines, read_lines, first_wrong}
-use Rattle.line.specs.Conditions.{fields_on, bytes_on}
-use Rattle.line.proofs.LineByLine.{Right, lines_right, and_then, read_lines_append, read_lines_stops, LinesRead}
-use Rattle.line.proofs.LineByLine.{take_replicate, fields_replicate, bytes_replicate}
-use Rattle.card.specs.Card.{head_lines, head, first_segment_line, line_behind, announced_of, segments_in, ages_in, announced, outcome_of}
+use Rattle.line.specs.declared.Blank.{Blank}
+use Rattle.line.specs.declared.lines.Unread.{Unread}
+use Rattle.line.specs.Lines.{Lines, ended}
+use Rattle.line.specs.Conditions.{LinesFit, lines_from, Behind, GoesOn}
+use Rattle.line.proofs.LineByLine.{Right, lines_right, take_replicate, fields_replicate, stops_there, from_there, right_there, goes_on}
+use Rattle.card.specs.Card.{head_lines, head, announced, line_behind, counts_in, shape, unless_refused, outcome_of}
 use Rattle.card.specs.Conditions.{AnnouncedFit}
-
--- the fields on the first lines of some that have the same count
-pub fields_taken : (n most count : ℕ) → n ≤ most → fields_on (take n (replicate most count)) ≡ count * n
-fields_taken n most count h = ap fields_on (take_replicate n most count h) ∙ fields_replicate n count
+use Rattle.card.specs.Laws.{right}
 
 -- ---- the lines of segments and of ages
 
 -- what the reader of all these lines leaves
-abbrev pub AnnouncedRead : MayBeBlank → List ℕ → ℕ → ℕ → List ℕ → List ℕ → ℕ → Type 0
-AnnouncedRead blank part segments ages old now wrong =
-    (wrong ≡ first_wrong (announced_of blank segments ages part) (line_behind segments ages))
-    × (now ≡ over (announced_of blank segments ages part).numbers old)
+pub record AnnouncedRead (counts : Counts) (unread : Unread) (was now : List ℕ) (result : Result (Unit {0}) ℕ) : Type 0 where
+  pub value : result ≡ ended (line_behind counts) (announced unread.blank counts unread.bytes.now).rest
+  pub fields_after : now ≡ over (announced unread.blank counts unread.bytes.now).numbers was
 
--- the bytes of the lines of segments, and their numbers
-abbrev pub segment_bytes : ℕ → ℕ
-segment_bytes segments = line_length per_segment * segments
+-- the lines' fields, as the code has them
+abbrev segment_lines : Counts → List ℕ
+segment_lines counts = take counts.segments (replicate most_segments per_segment)
 
-abbrev pub segment_numbers : ℕ → ℕ
-segment_numbers segments = per_segment * segments
+abbrev age_lines : Counts → List ℕ
+age_lines counts = take counts.ages (replicate most_ages per_age)
 
--- the lines of segments were read into a buffer
-pub record SegmentsRead (blank : MayBeBlank) (part old : List ℕ) (segments ages wrong : ℕ) (buffer : List ℕ) : Type 0 where
-  pub fits : AnnouncedFit segments ages old
-  pub read : LinesRead (read_lines blank (take segments (replicate most_segments per_segment)) first_segment_line first_segment_field part)
-      old buffer wrong
+module _ {counts : Counts} {old : Unread} {was : List ℕ} (fit : AnnouncedFit counts old was) where
+  abbrev segments : List ℕ
+  segments = replicate counts.segments per_segment
 
--- then those of ages
-pub record AgesRead (blank : MayBeBlank) (part : List ℕ) (segments ages : ℕ) (buffer : List ℕ) (wrong : ℕ) (after : List ℕ) : Type 0 where
-  pub read : LinesRead
-      (read_lines blank (take ages (replicate most_ages per_age)) (first_segment_line + segments)
-      (first_segment_field + segment_numbers segments)
-      (take (length part - segment_bytes segments) (drop (segment_bytes segments) part)))
-      (mid_of (segment_numbers segments) (length buffer - segment_numbers segments) buffer) after wrong
+  abbrev ages : List ℕ
+  ages = replicate counts.ages per_age
 
-module _ {blank : MayBeBlank} {part old : List ℕ} {segments ages wrong : ℕ} {buffer : List ℕ}
-    (first : SegmentsRead blank part old segments ages wrong buffer) where
-  abbrev of_segments : Lines
-  of_segments = read_lines blank (replicate segments per_segment) first_segment_line first_segment_field part
+  segments_are : segment_lines counts ≡ segments
+  segments_are = take_replicate counts.segments most_segments per_segment fit.segments_most
 
-  segments_read : LinesRead of_segments old buffer wrong
-  segments_read = rw (take_replicate segments most_segments per_segment first.fits.segments_most) at first.read
+  ages_are : age_lines counts ≡ ages
+  ages_are = take_replicate counts.ages most_ages per_age fit.ages_most
 
-  pub segment_wrong : 0 < wrong → AnnouncedRead blank part segments ages old buffer wrong
-  segment_wrong h =
-      let e = segments_read.0 in
-      let w : 0 < of_segments.wrong = omega arith in
-      let stops : announced_of blank segments ages part ≡ of_segments =
-      read_lines_stops blank (replicate segments per_segment) (replicate ages per_age) first_segment_line first_segment_field part w in
-      (e ∙ sym (rw (stops, lt-ltb 0 of_segments.wrong w)), segments_read.1 ∙ rw stops)
+  pub segments_fit : LinesFit (segment_lines counts) old was
+  segments_fit =
+      let fields = fields_replicate counts.segments per_segment in
+      let lines = length-replicate counts.segments per_segment in
+      let line = fit.line in
+      let field = fit.field in
+      let room = fit.room in
+      let most = fit.segments_most in
+      rw segments_are (record { room = omega arith; numbered = omega arith; lines_numbered = omega arith })
 
-  module _ (ok : wrong ≤ 0) where
-    no_wrong : of_segments.wrong ≡ 0
-    no_wrong = let e = segments_read.0 in omega arith
+  all_from : announced old.blank counts old.bytes.now ≡ lines_from old (segments ++ ages)
+  all_from = rw (fit.line, fit.field) refl
 
-    good : Right (replicate segments per_segment) part of_segments
-    good = lines_right blank (replicate segments per_segment) first_segment_line first_segment_field part (omega arith) no_wrong
+  module _ {after : List ℕ} (read : after ≡ over (lines_from old (segment_lines counts)).numbers was) where
+    pub segment_wrong : {line : ℕ} → (lines_from old (segment_lines counts)).rest ≡ Err line → AnnouncedRead counts old was after (Err line)
+    segment_wrong e =
+        let all = all_from ∙ stops_there segments ages old (rw segments_are at e) in
+        record {
+          value = ap (ended (line_behind counts)) (ap (λ (l : Lines). l.rest) (sym all));
+          fields_after = (rw segments_are at read) ∙ ap (λ (l : Lines). over l.numbers was) (sym all);
+        }
 
-    pub segments_long : segment_bytes segments ≤ length part
-    segments_long = let l = good.long in let b = bytes_replicate segments per_segment in omega arith
+    module _ {mid : Unread} (there : Behind (lines_from old (segment_lines counts)) (segment_lines counts) old mid) where
+      there_is : Behind (lines_from old segments) segments old mid
+      there_is = rw segments_are at there
 
-    numbers_long : length of_segments.numbers ≡ segment_numbers segments
-    numbers_long = good.read ∙ fields_replicate segments per_segment
+      abbrev read_numbers : ℕ
+      read_numbers = per_segment * counts.segments
 
-    pub buffer_long : length buffer ≡ length old
-    buffer_long =
-        let n = numbers_long in
-        let r = first.fits.room in
-        ap length segments_read.1 ∙ length_over of_segments.numbers old (omega arith)
+      numbers_long : read_numbers ≡ length (lines_from old segments).numbers
+      numbers_long = sym ((right_there there_is).read ∙ fields_replicate counts.segments per_segment)
 
-    module _ {wrong_age : ℕ} {after : List ℕ} (second : AgesRead blank part segments ages buffer wrong_age after) where
-      abbrev of_ages : Lines
-      of_ages =
-          read_lines blank (replicate ages per_age) (first_segment_line + segments) (first_segment_field + segment_numbers segments)
-          (drop (segment_bytes segments) part)
+      after_long : length after ≡ length was
+      after_long =
+          let n = numbers_long in
+          let room = fit.room in
+          ap length (rw segments_are at read) ∙ length_over (lines_from old segments).numbers was (omega arith)
 
-      abbrev lent_part : List ℕ
-      lent_part = mid_of (segment_numbers segments) (length buffer - segment_numbers segments) buffer
+      pub ages_fit : LinesFit (age_lines counts) mid (take (length after - read_numbers) (drop read_numbers after))
+      ages_fit =
+          let fields = fields_replicate counts.ages per_age in
+          let lines = length-replicate counts.ages per_age in
+          let field = there_is.field in
+          let line = there_is.line in
+          let before = fields_replicate counts.segments per_segment in
+          let lines_before = length-replicate counts.segments per_segment in
+          let first_line = fit.line in
+          let first_field = fit.field in
+          let room = fit.room in
+          let same = after_long in
+          let few = fit.segments_most in
+          let few_ages = fit.ages_most in
+          rw (ages_are, tail after read_numbers)
+          (record { room = simp length-drop (omega arith); numbered = omega arith; lines_numbered = omega arith })
 
-      abbrev written : List ℕ
-      written = put_mid (segment_numbers segments) (length buffer - segment_numbers segments) buffer after
+      module _ {last : List ℕ}
+          (written : last ≡ over (lines_from mid (age_lines counts)).numbers (mid_of read_numbers (length after - read_numbers) after)) where
+        abbrev buffer : List ℕ
+        buffer = put_mid read_numbers (length after - read_numbers) after last
 
-      ages_read : LinesRead of_ages lent_part after wrong_age
-      ages_read =
-          rw (take_replicate ages most_ages per_age first.fits.ages_most, tail part (segment_bytes segments)) at second.read
+        all_is : announced old.blank counts old.bytes.now
+            ≡ record { numbers = (lines_from old segments).numbers ++ (lines_from mid ages).numbers; rest = (lines_from mid ages).rest }
+        all_is = all_from ∙ from_there there_is ages
 
-      all_is : announced_of blank segments ages part ≡ and_then of_segments of_ages
-      all_is =
-          read_lines_append blank (replicate segments per_segment) (replicate ages per_age) first_segment_line first_segment_field part
-          (omega arith) no_wrong
-          ∙ rw (
-            length-replicate segments per_segment,
-            fields_replicate segments per_segment,
-            good.rest,
-            bytes_replicate segments per_segment,
-          )
+        buffer_is : buffer ≡ over (announced old.blank counts old.bytes.now).numbers was
+        buffer_is =
+            written_behind (lines_from old segments).numbers (lines_from mid ages).numbers was after last read_numbers numbers_long
+            (rw segments_are at read) (rw ages_are at written)
+            ∙ ap (λ (l : Lines). over l.numbers was) (sym all_is)
 
-      written_is : written ≡ over (announced_of blank segments ages part).numbers old
-      written_is =
-          written_behind of_segments.numbers of_ages.numbers old buffer after (segment_numbers segments)
-          (sym numbers_long) segments_read.1 ages_read.1
-          ∙ ap (λ (l : Lines). over l.numbers old) (sym all_is)
+        pub age_wrong : {line : ℕ} → (lines_from mid (age_lines counts)).rest ≡ Err line → AnnouncedRead counts old was buffer (Err line)
+        age_wrong e = record {
+          value = ap (ended (line_behind counts)) (sym (ap (λ (l : Lines). l.rest) all_is ∙ (rw ages_are at e)));
+          fields_after = buffer_is;
+        }
 
-      pub age_wrong : 0 < wrong_age → AnnouncedRead blank part segments ages old written wrong_age
-      age_wrong h =
-          let e = ages_read.0 in
-          let w : 0 < of_ages.wrong = omega arith in
-          (e ∙ sym (rw (all_is, lt-ltb 0 of_ages.wrong w)), written_is)
-
-      module _ (ok_ages : wrong_age ≤ 0) where
-        no_wrong_age : of_ages.wrong ≡ 0
-        no_wrong_age = let e = ages_read.0 in omega arith
-
-        rest_long : length of_ages.rest ≡ length part - (segment_bytes segments + line_length per_age * ages)
-        rest_long =
-            let behind = drop (segment_bytes segments) part in
-            let good_ages =
-            lines_right blank (replicate ages per_age) (first_segment_line + segments) (first_segment_field + segment_numbers segments) behind
-            (omega arith) no_wrong_age in
-            let b = bytes_replicate ages per_age in
-            let l = length-drop (bytes_on (replicate ages per_age)) behind in
-            let m = length-drop (segment_bytes segments) part in
-            ap length good_ages.rest ∙ (omega arith)
-
-        pub bytes_behind : segment_bytes segments + line_length per_age * ages < length part
-            → AnnouncedRead blank part segments ages old written (line_behind segments ages)
-        bytes_behind h =
-            let l = rest_long in
-            (sym (rw (all_is, no_wrong_age, lt-ltb 0 (length of_ages.rest) (omega arith))), written_is)
-
-        pub all_announced : length part ≤ segment_bytes segments + line_length per_age * ages
-            → AnnouncedRead blank part segments ages old written 0
-        all_announced h =
-            let l = rest_long in
-            (sym (rw (all_is, no_wrong_age, le-ltb 0 (length of_ages.rest) (omega arith))), written_is)
+        pub ends : {new : Unread} {result : Result (Unit {0}) ℕ}
+            → Behind (lines_from mid (age_lines counts)) (age_lines counts) mid new → result ≡ ended new.line (Ok new.bytes.now)
+            → AnnouncedRead counts old was buffer result
+        ends {new = new} then e =
+            let behind = goes_on there_is (rw ages_are at then) in
+            let lines = length-append segments ages in
+            let of_segments = length-replicate counts.segments per_segment in
+            let of_ages = length-replicate counts.ages per_age in
+            let line = behind.line in
+            let first_line = fit.line in
+            let place : new.line ≡ line_behind counts = omega arith in
+            record {
+              value = e ∙ ap (λ (l : ℕ). ended l (Ok new.bytes.now)) place
+                  ∙ ap (ended (line_behind counts)) (sym (ap (λ (l : Lines). l.rest) all_from ∙ behind.rest));
+              fields_after = buffer_is;
+            }
 
 -- ---- the card
 
 -- what the reader of a card leaves
-abbrev pub CardRead : MayBeBlank → List ℕ → List ℕ → List ℕ → Reading → Type 0
-CardRead blank card old now reading = (reading ≡ (outcome_of blank card).reading) × (now ≡ over (outcome_of blank card).numbers old)
+pub record CardRead (blank : Option Blank) (card was now : List ℕ) (reading : OrRefusal Counts) : Type 0 where
+  pub value : reading ≡ (outcome_of blank card).reading
+  pub fields_after : now ≡ over (outcome_of blank card).numbers was
 
-by : (blank : MayBeBlank) (card old now : List ℕ) (outcome : Outcome) → outcome_of blank card ≡ outcome → now ≡ over outcome.numbers old
-    → CardRead blank card old now outcome.reading
-by blank card old now outcome e is =
-    (ap (λ (o : Outcome). o.reading) (sym e), is ∙ ap (λ (o : Outcome). over o.numbers old) (sym e))
+by : (blank : Option Blank) (card was now : List ℕ) (outcome : Outcome) → outcome_of blank card ≡ outcome → now ≡ over outcome.numbers was
+    → CardRead blank card was now outcome.reading
+by blank card was now outcome e is = record {
+  value = ap (λ (o : Outcome). o.reading) (sym e);
+  fields_after = is ∙ ap (λ (o : Outcome). over o.numbers was) (sym e);
+}
 
-abbrev pub head_bytes : ℕ
-head_bytes = bytes_on head_lines
+-- which line is wrong or missing where a shape is refused
+pub record Wrong (A : Type 0) (result : Result A ℕ) (refusal : Refusal) : Type 0 where
+  pub line : ℕ
+  pub is : result ≡ Err line
+  pub refusal_is : refusal ≡ Refusal.Shape line
 
--- the counts of a buffer
-abbrev pub segments_of : List ℕ → ℕ
-segments_of buffer = get_or buffer (segments_field - 1) 0
-
-abbrev pub ages_of : List ℕ → ℕ
-ages_of buffer = get_or buffer (ages_field - 1) 0
+pub wrong : {A : Type 0} (result : Result A ℕ) (refusal : Refusal) → ◌≡◌ {A = OrRefusal A} (Err refusal) (shape result) → Wrong A result refusal
+wrong (Ok value) refusal e = absurd (let z : ⊥ = cc in z)
+wrong (Err line) refusal e = record { line = line; is = refl; refusal_is = cc }
 
 -- lines 1 to 4 were read into a buffer
-pub record HeadRead (blank : MayBeBlank) (card old : List ℕ) (wrong : ℕ) (buffer : List ℕ) : Type 0 where
-  pub room : most_fields ≤ length old
-  pub read : LinesRead (head blank card) old buffer wrong
+pub record HeadRead (blank : Option Blank) (card was : List ℕ) (start mid : Unread) (fields : List ℕ) (result : Result (Unit {0}) ℕ)
+    : Type 0 where
+  pub value : GoesOn (head blank card) head_lines start mid result
+  pub fields_after : fields ≡ over (head blank card).numbers was
 
-module _ {blank : MayBeBlank} {card old : List ℕ} {wrong : ℕ} {buffer : List ℕ} (first : HeadRead blank card old wrong buffer) where
-  pub head_wrong : 0 < wrong → CardRead blank card old buffer (Not (Shape wrong))
+module _ {blank : Option Blank} {card was : List ℕ} {start mid : Unread} {fields : List ℕ} {result : Result (Unit {0}) ℕ}
+    (first : HeadRead blank card was start mid fields result) where
+  pub head_wrong : (refusal : Refusal) → Err refusal ≡ shape result → CardRead blank card was fields (Err refusal)
   unfolding outcome_of
-  head_wrong h =
-      let e = first.read.0 in
-      by blank card old buffer (refused (Shape wrong) (head blank card).numbers)
-      (rw (lt-ltb 0 (head blank card).wrong (omega arith), e)) first.read.1
+  head_wrong refusal e =
+      let here = wrong result refusal e in
+      let is : (head blank card).rest ≡ Err here.line = rw here.is at first.value in
+      rw here.refusal_is
+      (by blank card was fields (refused (Refusal.Shape here.line) (head blank card).numbers) (rw is refl) first.fields_after)
 
-  module _ (ok : wrong ≤ 0) where
-    no_wrong_head : (head blank card).wrong ≡ 0
-    no_wrong_head = let e = first.read.0 in omega arith
+  module _ (whole : Ok tt ≡ shape result) where
+    there : Behind (head blank card) head_lines start mid
+    there = rw (right result (sym whole)) at first.value
 
-    good_head : Right head_lines card (head blank card)
-    good_head = lines_right blank head_lines 1 1 card (omega arith) no_wrong_head
+    head_right : Right head_lines card (head blank card) mid.bytes.now
+    head_right = lines_right blank head_lines 1 1 card mid.bytes.now there.rest
 
-    pub head_long : head_bytes ≤ length card
-    head_long = good_head.long
-
-    number_is : (k : ℕ) → k < head_fields → get_or (head blank card).numbers k 0 ≡ get_or buffer k 0
+    number_is : (k : ℕ) → k < head_fields → get_or fields k 0 ≡ get_or (head blank card).numbers k 0
     number_is k h =
-        sym (rw first.read.1 (get_or-append (head blank card).numbers _ 0 k (let n = good_head.read in omega arith)))
+        rw first.fields_after (get_or-append (head blank card).numbers _ 0 k (let n = head_right.read in omega arith))
 
-    abbrev segments : ℕ
-    segments = segments_of buffer
+    counts_are : counts_in fields ≡ counts_in (head blank card).numbers
+    counts_are = rw (number_is (segments_field - 1) (omega arith), number_is (ages_field - 1) (omega arith)) refl
 
-    abbrev ages : ℕ
-    ages = ages_of buffer
-
-    segments_are : segments_in (head blank card).numbers ≡ segments
-    segments_are = number_is (segments_field - 1) (omega arith)
-
-    ages_are : ages_in (head blank card).numbers ≡ ages
-    ages_are = number_is (ages_field - 1) (omega arith)
-
-    pub many_segments : most_segments < segments → CardRead blank card old buffer (Not (Ranges segments_field))
+    pub counts_refused : (refusal : Refusal) → Err refusal ≡ counts_in fields → CardRead blank card was fields (Err refusal)
     unfolding outcome_of
-    many_segments h =
-        by blank card old buffer (refused (Ranges segments_field) (head blank card).numbers)
-        (rw (no_wrong_head, segments_are, lt-ltb most_segments segments h)) first.read.1
+    counts_refused refusal e =
+        let counts = sym counts_are ∙ sym e in
+        by blank card was fields (refused refusal (head blank card).numbers) (rw (there.rest, counts) refl) first.fields_after
 
-    module _ (few : segments ≤ most_segments) where
-      pub few_ages : ages < least_ages → CardRead blank card old buffer (Not (Ranges ages_field))
+    -- then the lines that the counts announce
+    module _ {counts : Counts} {after : List ℕ} {ended_by : Result (Unit {0}) ℕ} (blank_is : start.blank ≡ blank)
+        (counted : Ok counts ≡ counts_in fields)
+        (second : AnnouncedRead counts mid (mid_of head_fields (length fields - head_fields) fields) after ended_by) where
+      abbrev more : Lines
+      more = announced blank counts mid.bytes.now
+
+      abbrev all : List ℕ
+      all = (head blank card).numbers ++ more.numbers
+
+      abbrev buffer_whole : List ℕ
+      buffer_whole = put_mid head_fields (length fields - head_fields) fields after
+
+      same_blank : mid.blank ≡ blank
+      same_blank = there.blank ∙ blank_is
+
+      buffer_is_whole : buffer_whole ≡ over all was
+      buffer_is_whole =
+          written_behind (head blank card).numbers more.numbers was fields after head_fields (sym head_right.read) first.fields_after
+          (rw same_blank at second.fields_after)
+
+      ended_is : ended_by ≡ ended (line_behind counts) more.rest
+      ended_is = rw same_blank at second.value
+
+      outcome_is : outcome_of blank card ≡ unless_refused (shape ended_by) all (λ _. accepted counts.segments counts.ages all)
       unfolding outcome_of
-      few_ages h =
-          by blank card old buffer (refused (Ranges ages_field) (head blank card).numbers)
-          (rw (no_wrong_head, segments_are, le-ltb most_segments segments few, ages_are, lt-ltb ages least_ages h)) first.read.1
+      outcome_is = let counts_here = sym counts_are ∙ sym counted in rw (there.rest, counts_here, ended_is) refl
 
-      module _ (enough : least_ages ≤ ages) where
-        pub many_ages : most_ages < ages → CardRead blank card old buffer (Not (Ranges ages_field))
-        unfolding outcome_of
-        many_ages h =
-            by blank card old buffer (refused (Ranges ages_field) (head blank card).numbers)
-            (rw (
-              no_wrong_head,
-              segments_are,
-              le-ltb most_segments segments few,
-              ages_are,
-              le-ltb ages least_ages enough,
-              lt-ltb most_ages ages h,
-            ))
-            first.read.1
+      pub announced_wrong : (refusal : Refusal) → Err refusal ≡ shape ended_by → CardRead blank card was buffer_whole (Err refusal)
+      announced_wrong refusal e = by blank card was buffer_whole (refused refusal all) (outcome_is ∙ rw (sym e) refl) buffer_is_whole
 
--- lines 1 to 4 are right, and the counts in range
-pub record CountsRead (blank : MayBeBlank) (card old buffer : List ℕ) : Type 0 where
-  pub wrong : ℕ
-  pub lines : HeadRead blank card old wrong buffer
-  pub ok : wrong ≤ 0
-  pub few : segments_of buffer ≤ most_segments
-  pub enough : least_ages ≤ ages_of buffer
-  pub not_many : ages_of buffer ≤ most_ages
-
--- then the lines that they announce were read
-pub record TailRead (blank : MayBeBlank) (card buffer : List ℕ) (wrong : ℕ) (after : List ℕ) : Type 0 where
-  pub read : AnnouncedRead blank (take (length card - head_bytes) (drop head_bytes card)) (segments_of buffer) (ages_of buffer)
-      (mid_of head_fields (length buffer - head_fields) buffer) after wrong
-
-module _ {blank : MayBeBlank} {card old buffer : List ℕ} (first : CountsRead blank card old buffer) {wrong_line : ℕ} {after : List ℕ}
-    (second : TailRead blank card buffer wrong_line after) where
-  abbrev counted_segments : ℕ
-  counted_segments = segments_of buffer
-
-  abbrev counted_ages : ℕ
-  counted_ages = ages_of buffer
-
-  behind : AnnouncedRead blank (drop head_bytes card) counted_segments counted_ages
-      (mid_of head_fields (length buffer - head_fields) buffer) after wrong_line
-  behind = rw (tail card head_bytes) at second.read
-
-  announced_is : announced blank card ≡ announced_of blank counted_segments counted_ages (drop head_bytes card)
-  announced_is =
-      rw (
-        segments_are first.lines first.ok,
-        ages_are first.lines first.ok,
-        (good_head first.lines first.ok).rest,
-      )
-
-  abbrev all : List ℕ
-  all = (head blank card).numbers ++ (announced blank card).numbers
-
-  abbrev whole : List ℕ
-  whole = put_mid head_fields (length buffer - head_fields) buffer after
-
-  whole_is : whole ≡ over all old
-  whole_is =
-      written_behind (head blank card).numbers (announced_of blank counted_segments counted_ages (drop head_bytes card)).numbers old buffer after
-      head_fields
-      (sym (good_head first.lines first.ok).read) first.lines.read.1 behind.1
-      ∙ ap (λ (l : Lines). over ((head blank card).numbers ++ l.numbers) old) (sym announced_is)
-
-  wrong_is : first_wrong (announced blank card) (line_behind counted_segments counted_ages) ≡ wrong_line
-  wrong_is = ap (λ (l : Lines). first_wrong l (line_behind counted_segments counted_ages)) announced_is ∙ sym behind.0
-
-  outcome_is : outcome_of blank card
-      ≡ cond (ltb 0 (first_wrong (announced blank card) (line_behind counted_segments counted_ages)))
-      (refused (Shape (first_wrong (announced blank card) (line_behind counted_segments counted_ages))) all)
-      (accepted counted_segments counted_ages all)
-  unfolding outcome_of
-  outcome_is =
-      rw (
-        no_wrong_head first.lines first.ok,
-        segments_are first.lines first.ok,
-        le-ltb most_segments counted_segments first.few,
-        ages_are first.lines first.ok,
-        le-ltb counted_ages least_ages first.enough,
-        le-ltb most_ages counted_ages first.not_many,
-      )
-
-  pub announced_wrong : 0 < wrong_line → CardRead blank card old whole (Not (Shape wrong_line))
-  announced_wrong h =
-      by blank card old whole (refused (Shape wrong_line) all) (outcome_is ∙ rw (wrong_is, lt-ltb 0 wrong_line h)) whole_is
-
-  pub all_read : wrong_line ≤ 0 → CardRead blank card old whole (Fields counted_segments counted_ages)
-  all_read h =
-      by blank card old whole (accepted counted_segments counted_ages all) (outcome_is ∙ rw (wrong_is, le-ltb 0 wrong_line h)) whole_is
+      pub all_read : Ok tt ≡ shape ended_by → CardRead blank card was buffer_whole (Ok counts)
+      all_read e = by blank card was buffer_whole (accepted counts.segments counts.ages all) (outcome_is ∙ rw (sym e) refl) buffer_is_whole

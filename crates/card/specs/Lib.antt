@@ -1,3 +1,4 @@
 pub mod Card
 pub mod Slip
 pub mod Conditions
+pub mod Laws

@@ -1,19 +1,22 @@
-// The reader of cards.
+// Cards: how one is read.
 #![tactic(auto)]
 
 ghost use Rattle.std.specs.Prelude.{◌≡◌, ◌≤◌, length};
-ghost use Rattle.fields.specs.Limits.{blank_slip};
+ghost use Rattle.fields.specs.Quantities.{head_fields};
 ghost use Rattle.fields.specs.Sizes.{most_fields};
 ghost use Rattle.fields.specs.Outcomes.{over};
-ghost use Rattle.card.specs.Card.{slip_may_be_blank, announced_of, line_behind, outcome_of, card_outcome};
+ghost use Rattle.line.specs.Lines.{ended};
+ghost use Rattle.card.specs.Card.{shape, counts_in, announced, line_behind, outcome_of, card_outcome};
 ghost use Rattle.card.specs.Conditions.{AnnouncedFit};
-ghost use Rattle.line.specs.Lines.{first_wrong};
+ghost use Rattle.card.specs.Laws.{card_accepted};
 
-use fields::layout::{AGES, HEAD_FIELDS, PER_AGE, PER_SEGMENT, SEGMENTS, SLIP};
+use fields::layout::{AGES, HEAD_FIELDS, PER_AGE, PER_SEGMENT, SEGMENTS};
 use fields::limits::{BLANK_SLIP, LEAST_AGES, MOST_AGES, MOST_FIELDS, MOST_SEGMENTS};
-use fields::refusal::{Reading, Refusal};
-use line::lines::read_lines;
-use line::{COLUMNS, MayBeBlank};
+use fields::read::{Counts, Reader};
+use fields::refusal::Refusal;
+use fields::{layout, places};
+use line::lines::Unread;
+use line::{Blank, COLUMNS};
 
 const HEAD_LINES: usize = 4;
 
@@ -29,120 +32,88 @@ const AGE_BYTES: usize = COLUMNS * PER_AGE + 1;
 
 pub const MOST_BYTES: usize = HEAD_BYTES + SEGMENT_BYTES * MOST_SEGMENTS + AGE_BYTES * MOST_AGES;
 
-// The first line of a segment, and its first field.
-const SEGMENT_LINE: usize = HEAD_LINES + 1;
-
-const SEGMENT_FIELD: usize = HEAD_FIELDS + 1;
-
 // A blank slip reads so many ticks, and no other field may be blank.
-fn slip_may_be_blank() -> MayBeBlank
-    ensures { result ≡ slip_may_be_blank blank_slip }
+const SLIP: Blank = Blank {
+    field: layout::SLIP,
+    reads: BLANK_SLIP,
+};
+
+// The first wrong or missing line is the place of a refusal.
+fn shape(lines: Result<(), u64>) -> Result<(), Refusal>
+    ensures { result ≡ shape lines }
 {
-    MayBeBlank::Only {
-        field: SLIP,
-        reads: BLANK_SLIP,
-    }
+    lines.map_err(Refusal::Shape)
 }
 
-// The lines of segments and of ages, which end the card. The first wrong line, or 0.
-fn read_announced(
-    part: &[u8],
-    blank: MayBeBlank,
-    segments: usize,
-    ages: usize,
-    fields: &mut [u64],
-) -> usize
-    requires { AnnouncedFit segments ages fields.old }
-    ensures value { result ≡ first_wrong (announced_of blank segments ages part.now) (line_behind segments ages) }
+// The counts of segments and of ages, ranged.
+fn counts(fields: &[u64]) -> Result<Counts, Refusal>
+    requires { head_fields ≤ length fields.now }
+    ensures { result ≡ counts_in fields.now }
+{
+    let segments = fields[places::SEGMENTS] as usize;
+    if MOST_SEGMENTS < segments {
+        return Err(Refusal::Ranges(SEGMENTS as u64));
+    }
+    let ages = fields[places::AGES] as usize;
+    if !(LEAST_AGES..=MOST_AGES).contains(&ages) {
+        return Err(Refusal::Ranges(AGES as u64));
+    }
+    Ok(Counts { segments, ages })
+}
+
+// The lines of segments and of ages, which end the card. The first wrong line, if there is one.
+fn read_announced(unread: &mut Unread, counts: Counts, fields: &mut [u64]) -> Result<(), u64>
+    requires { AnnouncedFit counts unread.old fields.old }
+    ensures value { result ≡ ended (line_behind counts) (announced unread.old.blank counts unread.old.bytes.now).rest }
     ensures fields_after { fields.new
-        ≡ over (announced_of blank segments ages part.now).numbers fields.old }
+        ≡ over (announced unread.old.blank counts unread.old.bytes.now).numbers fields.old }
 {
-    let of_segments = [PER_SEGMENT; MOST_SEGMENTS];
-    let wrong = read_lines(
-        part,
-        blank,
-        &of_segments[..segments],
-        SEGMENT_LINE,
-        SEGMENT_FIELD,
-        fields,
-    );
-    if 0 < wrong {
-        return wrong;
-    }
-    let at = SEGMENT_BYTES * segments;
-    let line = SEGMENT_LINE + segments;
-    let read = PER_SEGMENT * segments;
-    let of_ages = [PER_AGE; MOST_AGES];
-    let wrong = read_lines(
-        &part[at..],
-        blank,
-        &of_ages[..ages],
-        line,
-        SEGMENT_FIELD + read,
-        &mut fields[read..],
-    );
-    if 0 < wrong {
-        return wrong;
-    }
-    if at + AGE_BYTES * ages < part.len() {
-        return line + ages;
-    }
-    0
-}
-
-fn wrong_line(line: usize) -> Reading
-    ensures { result ≡ Reading.Not (Refusal.Shape line) }
-{
-    Reading::Not(Refusal::Shape(line as u64))
-}
-
-fn out_of_range(field: usize) -> Reading
-    ensures { result ≡ Reading.Not (Refusal.Ranges field) }
-{
-    Reading::Not(Refusal::Ranges(field as u64))
+    unread.read_lines(&[PER_SEGMENT; MOST_SEGMENTS][..counts.segments], fields)?;
+    let read = PER_SEGMENT * counts.segments;
+    unread.read_lines(&[PER_AGE; MOST_AGES][..counts.ages], &mut fields[read..])?;
+    unread.end()
 }
 
 // What a card gives, by which of its fields may be blank; the numbers before its first wrong field are written at the front of
 // `fields`.
-fn read_into(card: &[u8], blank: MayBeBlank, fields: &mut [u64]) -> Reading
+fn read_into(card: &[u8], blank: Option<Blank>, fields: &mut [u64]) -> Result<Counts, Refusal>
     requires { most_fields ≤ length fields.old }
     ensures value { result ≡ (outcome_of blank card.now).reading }
     ensures fields_after { fields.new ≡ over (outcome_of blank card.now).numbers fields.old }
 {
-    let head = FIELDS_BY_LINE;
-    let wrong = read_lines(card, blank, &head, 1, 1, fields);
-    if 0 < wrong {
-        return wrong_line(wrong);
-    }
-    let segments = fields[SEGMENTS - 1] as usize;
-    if MOST_SEGMENTS < segments {
-        return out_of_range(SEGMENTS);
-    }
-    let ages = fields[AGES - 1] as usize;
-    if ages < LEAST_AGES {
-        return out_of_range(AGES);
-    }
-    if MOST_AGES < ages {
-        return out_of_range(AGES);
-    }
-    let wrong = read_announced(
-        &card[HEAD_BYTES..],
+    let mut unread = Unread {
+        bytes: card,
+        line: 1,
+        field: 1,
         blank,
-        segments,
-        ages,
-        &mut fields[HEAD_FIELDS..],
-    );
-    if 0 < wrong {
-        return wrong_line(wrong);
+    };
+    shape(unread.read_lines(&FIELDS_BY_LINE, fields))?;
+    let counts = counts(fields)?;
+    shape(read_announced(&mut unread, counts, &mut fields[HEAD_FIELDS..]))?;
+    Ok(counts)
+}
+
+// The reader of cards.
+pub struct Cards;
+
+impl Reader for Cards {
+    type Item = u8;
+
+    ghost outcome = { card_outcome };
+
+    #[tactic(auto, unfolding(crate::specs::Card::card_outcome))]
+    fn read(card: &[u8], fields: &mut [u64; MOST_FIELDS]) -> Result<Counts, Refusal> {
+        read_into(card, Some(SLIP), fields)
     }
-    Reading::Fields(segments as u64, ages as u64)
+
+    ghost accepted = { card_accepted };
 }
 
 // What a card gives; the numbers before its first wrong field are written at the front of `fields`, which has room for every
 // card.
-pub fn read_card(card: &[u8], fields: &mut [u64; MOST_FIELDS]) -> Reading
+pub fn read_card(card: &[u8], fields: &mut [u64; MOST_FIELDS]) -> Result<Counts, Refusal>
     ensures value { result ≡ (card_outcome card.now).reading }
     ensures fields_after { fields.new ≡ over (card_outcome card.now).numbers fields.old }
 {
-    read_into(card, slip_may_be_blank(), fields)
+    Cards::read(card, fields)
 }

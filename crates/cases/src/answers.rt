@@ -1,82 +1,61 @@
 // The answer of a list or of a sheet on standard output.
 ghost use Rattle.std.specs.Prelude.{◌≤◌, length};
-ghost use Rattle.cases.specs.Sizes.{most_room};
 
-use crate::lines::LINE_FEED;
-use elongation::SheetAnswer;
-use entries::Answer;
-use fields::limits::{MOST_AGES, MOST_FIELDS, PER_ROW};
-use fields::refusal::{Reading, Refusal};
+use elongation::Total;
+use fields::limits::{MOST_FIELDS, PER_ROW};
+use fields::refusal::Refusal;
 use stages::before::BeforeAges;
+use std::io;
 use text::{MOST_LINE_BYTES, MOST_PER_LINE};
 
 // Numbers that a report, a scratch or a sheet is lent at most.
 const MOST_ROOM: usize = 4096;
 
 fn print_numbers(rt: &impl Print, numbers: &[u64]) {
+    let _ = input::write_numbers(&mut io::writer(rt), numbers);
+}
+
+// A line that `put` lays out.
+fn print_line<F: FnOnce(&mut [u8; MOST_LINE_BYTES]) -> usize>(rt: &impl Print, put: F)
+    requires callable { F.IsAlwaysCallable put }
+    requires counted { (line : _) (bytes : _) (after : _) → F.post put line bytes after → bytes ≤ length after.now }
+{
     let mut line = [0u8; MOST_LINE_BYTES];
-    let bytes = text::line_of(numbers, &mut line);
+    let bytes = put(&mut line);
     let _ = rt.write_all(&line[..bytes]);
 }
 
 fn print_refusal(rt: &impl Print, refusal: Refusal) {
-    let mut line = [0u8; MOST_LINE_BYTES];
-    let bytes = text::line_of_refusal(refusal, &mut line);
-    let _ = rt.write_all(&line[..bytes]);
+    print_line(rt, |line| text::line_of_refusal(refusal, line));
 }
 
 fn print_before(rt: &impl Print, before: BeforeAges) {
-    let mut line = [0u8; MOST_LINE_BYTES];
-    let bytes = text::line_before_ages(before, &mut line);
-    let _ = rt.write_all(&line[..bytes]);
+    print_line(rt, |line| text::line_before_ages(before, line));
 }
 
 // The bits of a double, as one decimal number; of a NaN, an empty line.
 fn print_bits(rt: &impl Print, double: f64) {
-    if double == double {
-        let bits = f64::to_bits(double);
-        let _ = print!(rt; "{bits}");
-    }
-    let _ = rt.write_all(&[LINE_FEED]);
-}
-
-// A line for each row of a report.
-fn print_rows(rt: &impl Print, report: &[u64; MOST_ROOM], ages: u64) {
-    if (MOST_AGES as u64) < ages {
+    if double.is_nan() {
+        let _ = println!(rt; "");
         return;
     }
-    let mut row = 0usize;
-    let mut age = 0u64;
-    while age < ages {
-        print_numbers(
-            rt,
-            &[
-                report[row],
-                report[row + 1],
-                report[row + 2],
-                report[row + 3],
-                report[row + 4],
-            ],
-        );
-        row += PER_ROW;
-        age += 1;
+    let bits = double.to_bits();
+    let _ = println!(rt; "{bits}");
+}
+
+// A line for each row of a report. A part of the buffer in place of the count would be an option to take apart, and no plainer.
+fn print_rows(rt: &impl Print, report: &[u64; MOST_ROOM], ages: usize) {
+    for row in report.chunks_exact(PER_ROW).take(ages) {
+        print_numbers(rt, row);
     }
 }
 
 // The rows of an accepted list: how many there are is read off the list once more.
 fn print_rows_of(rt: &impl Print, list: &[f64], report: &[u64; MOST_ROOM]) {
     let mut numbers = [0u64; MOST_FIELDS];
-    let Reading::Fields(_, ages) = list::read_list(list, &mut numbers) else {
-        return;
-    };
-    print_rows(rt, report, ages);
-}
-
-// A room, or the most that there is.
-fn room_of(room: usize) -> usize
-    ensures { result ≤ most_room }
-{
-    if MOST_ROOM < room { MOST_ROOM } else { room }
+    if let Ok(counts) = list::read_list(list, &mut numbers) {
+        print_rows(rt, report, counts.ages);
+    }
 }
 
 // A list's answer, with room for so many numbers in report and scratch: number and place, 0 and 0 if it is accepted; then the
@@ -84,16 +63,14 @@ fn room_of(room: usize) -> usize
 pub(crate) fn print_list(rt: &impl Print, list: &[f64], report_room: usize, scratch_room: usize) {
     let mut report = [0u64; MOST_ROOM];
     let mut scratch = [0u64; MOST_ROOM];
-    let lent = room_of(report_room);
-    let spare = room_of(scratch_room);
+    let lent = report_room.min(MOST_ROOM);
+    let spare = scratch_room.min(MOST_ROOM);
     match entries::run_list(list, &mut report[..lent], &mut scratch[..spare]) {
-        Answer::Refused(refusal) => print_refusal(rt, refusal),
-        Answer::Accepted(reply) => {
-            let before = reply.before;
-            let last = reply.last;
+        Err(refusal) => print_refusal(rt, refusal),
+        Ok(reply) => {
             print_numbers(rt, &[0, 0]);
-            print_before(rt, before);
-            print_bits(rt, last);
+            print_before(rt, reply.before);
+            print_bits(rt, reply.last);
             print_rows_of(rt, list, &report);
         }
     }
@@ -103,38 +80,27 @@ pub(crate) fn print_list(rt: &impl Print, list: &[f64], report_room: usize, scra
 const UNWRITTEN: u64 = 9_999_999_999_999;
 
 // The numbers of a lent buffer, as many to a line as a line has.
-fn print_lent(rt: &impl Print, lent: &[u64])
-    requires { length lent.now ≤ most_room }
-{
-    let mut at = 0usize;
-    while at < lent.len() {
-        print_numbers(rt, &lent[at..]);
-        at += MOST_PER_LINE;
+fn print_lent(rt: &impl Print, lent: &[u64]) {
+    for numbers in lent.chunks(MOST_PER_LINE) {
+        print_numbers(rt, numbers);
     }
 }
 
 // Number and place, 0 and 0 if a sheet is accepted; then its sum and its measurable part.
-fn print_total(rt: &impl Print, answer: SheetAnswer) {
+fn print_total(rt: &impl Print, answer: Result<Total, Refusal>) {
     match answer {
-        SheetAnswer::Refused(refusal) => print_refusal(rt, refusal),
-        SheetAnswer::Accepted(total) => {
+        Err(refusal) => print_refusal(rt, refusal),
+        Ok(total) => {
             print_numbers(rt, &[0, 0]);
             print_numbers(rt, &[total.sum, total.measurable]);
         }
     }
 }
 
-// A card's sheet: its answer, and then, also of a refused one, every number of the lent buffer.
-fn print_sheet_in(rt: &impl Print, card: &[u8], lent: &mut [u64])
-    requires { length lent.old ≤ most_room }
-{
-    print_total(rt, elongation::elongation_sheet(card, lent));
-    print_lent(rt, lent);
-}
-
-// The same, with room for so many numbers.
+// A card's sheet, with room for so many numbers: its answer, and then, also of a refused one, every number of the lent buffer.
 pub(crate) fn print_sheet(rt: &impl Print, card: &[u8], room: usize) {
     let mut sheet = [UNWRITTEN; MOST_ROOM];
-    let lent = room_of(room);
-    print_sheet_in(rt, card, &mut sheet[..lent]);
+    let lent = &mut sheet[..room.min(MOST_ROOM)];
+    print_total(rt, elongation::elongation_sheet(card, lent));
+    print_lent(rt, lent);
 }

@@ -2,7 +2,7 @@
 // ranges and rules, and edges.txt says which.
 use std::rt::Files;
 use std::{fs, io};
-use text::{MOST_READ_BYTES, MOST_TEXT_BYTES, Program};
+use text::Program;
 
 const CARDS: usize = 441;
 
@@ -14,18 +14,14 @@ fn open_card<R: Files + Alloc>(rt: &R, number: usize) -> io::Result<R::File> {
 
 // What the report program prints for a card.
 fn run_card(rt: &(impl Files + Alloc + Print + Eprint), number: usize) {
-    let mut file = match open_card(rt, number) {
-        Ok(file) => file,
+    match open_card(rt, number) {
+        Ok(mut file) => {
+            let _ = input::answer(Program::Report, &mut file, &mut io::writer(rt));
+        }
         Err(error) => {
             let _ = eprintln!(rt; "cards: {error}");
-            return;
         }
-    };
-    let mut card = [0u8; MOST_READ_BYTES];
-    let read = input::read_full(&mut file, &mut card);
-    let mut text = [0u8; MOST_TEXT_BYTES];
-    let bytes = text::text_of_input(Program::Report, &card, read, &mut text);
-    let _ = rt.write_all(&text[..bytes]);
+    }
 }
 
 pub(crate) fn run_cards(rt: &(impl Files + Alloc + Print + Eprint)) {

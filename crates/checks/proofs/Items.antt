@@ -1,82 +1,103 @@
--- The segments and the ages that are left when some are passed: the next one, and where none is left. Each is read off the list
--- at its own place. Assumes nothing.
-use mathlib.Core.Path.{◌≡◌, ◌∙◌}
-use mathlib.Core.List.{List, [], ◌∷◌}
-use Prim.Native.Nat.{ℕ, zero, suc, ◌+◌, ◌-◌, ◌*◌, ◌≤◌, ◌<◌}
-use native.Mathlib.Nat.{add-zero, sub-zero}
+-- The checks of the first of the segments, or of the ages, that some fields are, and of those behind it; fewer fields are none. Assumes
+-- nothing.
+use mathlib.Core.Path.{◌≡◌}
+use mathlib.Core.Bool.{◌&&◌}
+use mathlib.Core.List.{List, [], ◌∷◌, ◌++◌}
+use Prim.Native.Nat.{ℕ, suc, ◌+◌, ◌/◌, ◌<◌}
 use native.Mathlib.Omega.{arith}
-use lib.ListN.{length, get_or, drop, length-drop}
-use lib.Seq.{get_or-drop, drop-drop}
-use Rattle.fields.specs.Quantities.{per_segment, per_age, Segment, segments_from, Age, ages_from}
-use Rattle.fields.specs.Sizes.{most_fields}
-use Rattle.checks.specs.Places.{segment}
-use Rattle.checks.specs.Readable.{Listed}
+use lib.Dec.{leb, ltb}
+use lib.ListN.{length, length-append}
+use lib.Seq.{drop_at}
+use Rattle.std.specs.Prelude.{Ok}
+use Rattle.std.proofs.lemmas.List.{get_or_append_left}
+use Rattle.logarithm.specs.Logarithm.{service_life}
+use Rattle.fields.specs.Quantities.{per_segment, per_age, segment_at, segments_from, segments_of, age_at, ages_from, ages_of, straight, bend}
+use Rattle.fields.specs.Limits.{most_moment}
+use Rattle.checks.specs.Rows.{at, checked, within, segment_codes, length_fits, rise_fits, ranges_of_segments, ranges_of_moments}
+use Rattle.checks.specs.Rows.{hours_of_ages}
+use Rattle.checks.proofs.Rows.{first, held}
 
-one_less : {k n : ℕ} → k < n → n - k ≡ suc (n - (k + 1))
-one_less h = omega arith
-
-none_left : {k n : ℕ} → n ≤ k → n - k ≡ 0
-none_left h = omega arith
-
--- segments
-abbrev pub segment_at : List ℕ → ℕ → Segment
-segment_at list k =
-    segment (get_or list (per_segment * k) 0) (get_or list (per_segment * k + 1) 0) (get_or list (per_segment * k + 2) 0)
-
-abbrev pub left_segments : List ℕ → ℕ → ℕ → List Segment
-left_segments list n k = segments_from (n - k) (drop (per_segment * k) list)
-
-pub all_segments : (list : List ℕ) (n : ℕ) → segments_from n list ≡ left_segments list n 0
-all_segments list n = rw (sub-zero n)
-
-pub next_segment : (list : List ℕ) (n k : ℕ) → k < n → left_segments list n k ≡ segment_at list k ∷ left_segments list n (k + 1)
+pub next_segment : (part rest : List ℕ) → length part ≡ per_segment → segments_of (part ++ rest) ≡ segment_at part ∷ segments_of rest
 unfolding segments_from
-next_segment list n k h =
-    let on : per_segment * k + per_segment ≡ per_segment * (k + 1) = omega arith in
-    rw (one_less h) (simp (get_or-drop, drop-drop, add-zero, on))
+next_segment part rest h =
+    let more : length (part ++ rest) / per_segment ≡ suc (length rest / per_segment) = simp length-append (omega arith) in
+    rw (
+      more,
+      get_or_append_left part rest 0 0 (omega arith),
+      get_or_append_left part rest 0 1 (omega arith),
+      get_or_append_left part rest 0 2 (omega arith),
+      drop_at part rest per_segment h,
+    )
 
--- what is left of the segments is their list without those that are passed
-pub left_segments_is : (list : List ℕ) (n k : ℕ) → drop k (segments_from n list) ≡ left_segments list n k
-unfolding segments_from
-left_segments_is list n zero = rw (sub-zero n)
-left_segments_is list zero (suc k) = let none : 0 - suc k ≡ 0 = omega arith in rw none
-left_segments_is list (suc n) (suc k) =
-    let on : per_segment + per_segment * k ≡ per_segment * suc k = omega arith in
-    let same : suc n - suc k ≡ n - k = omega arith in
-    left_segments_is (drop per_segment list) n k ∙ rw (same, drop-drop, ← on)
-
-pub no_segment : (list : List ℕ) (n k : ℕ) → n ≤ k → left_segments list n k ≡ []
-unfolding segments_from
-no_segment list n k h = rw (none_left h)
-
--- ages
-abbrev pub age_at : List ℕ → ℕ → Age
-age_at list k = record { hour = get_or list (per_age * k) 0; moment = get_or list (per_age * k + 1) 0 }
-
-abbrev pub left_ages : List ℕ → ℕ → ℕ → List Age
-left_ages list n k = ages_from (n - k) (drop (per_age * k) list)
-
-pub all_ages : (list : List ℕ) (n : ℕ) → ages_from n list ≡ left_ages list n 0
-all_ages list n = rw (sub-zero n)
-
-pub next_age : (list : List ℕ) (n k : ℕ) → k < n → left_ages list n k ≡ age_at list k ∷ left_ages list n (k + 1)
+pub next_age : (part rest : List ℕ) → length part ≡ per_age → ages_of (part ++ rest) ≡ age_at part ∷ ages_of rest
 unfolding ages_from
-next_age list n k h =
-    let on : per_age * k + per_age ≡ per_age * (k + 1) = omega arith in
-    rw (one_less h) (simp (get_or-drop, drop-drop, add-zero, on))
+next_age part rest h =
+    let more : length (part ++ rest) / per_age ≡ suc (length rest / per_age) = simp length-append (omega arith) in
+    rw (
+      more,
+      get_or_append_left part rest 0 0 (omega arith),
+      get_or_append_left part rest 0 1 (omega arith),
+      drop_at part rest per_age h,
+    )
 
-pub no_age : (list : List ℕ) (n k : ℕ) → n ≤ k → left_ages list n k ≡ []
+pub no_segment : (list : List ℕ) → length list < per_segment → segments_of list ≡ []
+unfolding segments_from
+no_segment list h = let none : length list / per_segment ≡ 0 = omega arith in rw none
+
+pub no_age : (list : List ℕ) → length list < per_age → ages_of list ≡ []
 unfolding ages_from
-no_age list n k h = rw (none_left h)
+no_age list h = let none : length list / per_age ≡ 0 = omega arith in rw none
 
--- ---- where they stand in the fields of a card or a list
+-- ---- what the checks along them say
 
--- the fields from an element on, as the checks of what is listed there ask
-pub listed : (fields : List ℕ) {part : List ℕ} (fields_of_each count element place : ℕ) → length fields ≡ most_fields
-    → element + fields_of_each * count ≤ most_fields → place ≡ element + 1 → part ≡ drop element fields
-    → Listed fields_of_each count place part
-listed fields fields_of_each count element place whole fits number e = record {
-  room = rw (e, length-drop) (omega arith);
-  place_least = omega arith;
-  places_fit = omega arith;
-}
+pub next_code : (place : ℕ) (part rest : List ℕ) → length part ≡ per_segment
+    → segment_codes place (segments_of (part ++ rest))
+    ≡ at place (within straight bend (segment_at part).kind) ∷ segment_codes (place + per_segment) (segments_of rest)
+unfolding segment_codes
+next_code place part rest h = rw (next_segment part rest h)
+
+pub no_code : (place : ℕ) (list : List ℕ) → length list < per_segment → checked (segment_codes place (segments_of list)) ≡ Ok tt
+unfolding segment_codes checked
+no_code place list h = rw (no_segment list h)
+
+pub next_range : (place : ℕ) (part rest : List ℕ) → length part ≡ per_segment
+    → ranges_of_segments place (segments_of (part ++ rest))
+    ≡ at (place + 1) (length_fits (segment_at part)) ∷ at (place + 2) (rise_fits (segment_at part))
+    ∷ ranges_of_segments (place + per_segment) (segments_of rest)
+unfolding ranges_of_segments
+next_range place part rest h = rw (next_segment part rest h)
+
+pub no_range : (place : ℕ) (list : List ℕ) → length list < per_segment → checked (ranges_of_segments place (segments_of list)) ≡ Ok tt
+unfolding ranges_of_segments checked
+no_range place list h = rw (no_segment list h)
+
+pub next_moment : (place before : ℕ) (part rest : List ℕ) → length part ≡ per_age → let moments = before + (age_at part).moment in
+    ranges_of_moments place before (ages_of (part ++ rest))
+    ≡ at (place + 1) (leb moments most_moment) ∷ ranges_of_moments (place + per_age) moments (ages_of rest)
+unfolding ranges_of_moments
+next_moment place before part rest h = rw (next_age part rest h)
+
+pub no_moment : (place before : ℕ) (list : List ℕ) → length list < per_age
+    → checked (ranges_of_moments place before (ages_of list)) ≡ Ok tt
+unfolding ranges_of_moments checked
+no_moment place before list h = rw (no_age list h)
+
+pub next_hour : (place before : ℕ) (part rest : List ℕ) → length part ≡ per_age → let hour = (age_at part).hour in
+    hours_of_ages place before (ages_of (part ++ rest))
+    ≡ at place (ltb before hour && leb hour service_life) ∷ hours_of_ages (place + per_age) hour (ages_of rest)
+unfolding hours_of_ages
+next_hour place before part rest h = rw (next_age part rest h)
+
+pub no_hour : (place before : ℕ) (list : List ℕ) → length list < per_age → checked (hours_of_ages place before (ages_of list)) ≡ Ok tt
+unfolding hours_of_ages checked
+no_hour place before list h = rw (no_age list h)
+
+-- ---- what each loop cites
+
+pub ruleset codes_along = (first, next_code, no_code)
+
+pub ruleset ranges_along = (first, next_range, no_range)
+
+pub ruleset moments_along = (first, held, next_moment, no_moment)
+
+pub ruleset hours_along = (first, next_hour, no_hour)

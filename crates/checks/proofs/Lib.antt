@@ -1,6 +1,5 @@
 pub mod Rows
-pub mod RowPlaces
+pub mod Parts
 pub mod Items
 pub mod Holding
 pub mod Cascade
-pub mod Reading

@@ -1,10 +1,13 @@
 -- The promise rests on it. Document 01, "Refusal by place of checking", from codes to creep: each row as its checks in their order.
 use Rattle.std.specs.Prelude.{ℕ, ◌+◌, ◌*◌, Bool, ◌&&◌, ◌||◌, not, cond, List, [], ◌∷◌, ◌++◌, leb, ltb, eqb, length}
+use Rattle.std.specs.Prelude.{Result, Ok, Err}
 use Rattle.logarithm.specs.Logarithm.{service_life}
 use Rattle.fields.specs.declared.refusal.Refusal.{Refusal}
-use Rattle.fields.specs.Quantities.{first_segment_field, first_age_field, per_segment, per_age, Quantities, field_number, Segment, Age}
+use Rattle.fields.specs.Quantities.{first_segment_field, first_age_field, per_segment, per_age, Quantities, field_number}
+use Rattle.fields.specs.declared.segments.Segment.{Segment}
+use Rattle.fields.specs.declared.segments.Age.{Age}
 use Rattle.fields.specs.Quantities.{is_pretensioned, is_moist, straight, parabola, bend}
-use Rattle.fields.specs.Outcomes.{OrRefusal, Gives, Refuses}
+use Rattle.fields.specs.Outcomes.{OrRefusal, onward}
 use Rattle.fields.specs.Limits.{Range, range, most_of_strength, hundredths, most_length, most_moment, least_straight, least_parabola}
 use Rattle.fields.specs.Limits.{most_rise, most_angle, least_moist_transfer, most_friction, report_room, scratch_room, most_kappa}
 use Rattle.fields.specs.Limits.{most_creep_of_kappa}
@@ -19,10 +22,10 @@ pub record Check : Type 0 where
 abbrev pub at : ℕ → Bool → Check
 at place holds = record { place = place; holds = holds }
 
--- "Within a row the first field wins": the first place whose check fails, and 0 where none does
-unfoldable pub first_failing : List Check → ℕ
-first_failing [] = 0
-first_failing (check ∷ checks) = cond check.holds (first_failing checks) check.place
+-- "Within a row the first field wins": the place of the first check that fails, if one does
+unfoldable pub checked : List Check → Result (Unit {0}) ℕ
+checked [] = Ok tt
+checked (check ∷ checks) = cond check.holds (checked checks) (Err check.place)
 
 -- a row: which refusal a place of it is, and its checks
 pub record CheckRow : Type 0 where
@@ -32,12 +35,15 @@ pub record CheckRow : Type 0 where
 abbrev pub row : (ℕ → Refusal) → List Check → CheckRow
 row refusal checks = record { refusal = refusal; checks = checks }
 
+-- the refusal of the place that a row gives
+abbrev pub refused_at : (ℕ → Refusal) → Result (Unit {0}) ℕ → OrRefusal (Unit {0})
+refused_at refusal (Ok held) = Ok held
+refused_at refusal (Err place) = Err (refusal place)
+
 -- "top to bottom": a value, where every check of some rows holds
 unfoldable pub checked_by : {A : Type 0} → List CheckRow → A → OrRefusal A
-checked_by [] value = Gives value
-checked_by (row ∷ rows) value =
-    let place = first_failing row.checks in
-    cond (eqb place 0) (checked_by rows value) (Refuses (row.refusal place))
+checked_by [] value = Ok value
+checked_by (row ∷ rows) value = onward (refused_at row.refusal (checked row.checks)) (λ held. checked_by rows value)
 
 -- x lies in low..high
 abbrev pub within : ℕ → ℕ → ℕ → Bool
@@ -59,7 +65,7 @@ head_codes q =
     ranged field_number.kind range.kind q.kind ∷ ranged field_number.steel range.steel q.steel
     ∷ ranged field_number.cure range.cure q.cure ∷ ranged field_number.concrete range.concrete q.concrete ∷ []
 
-abbrev pub codes : Quantities → List Check
+unfoldable pub codes : Quantities → List Check
 codes q = head_codes q ++ segment_codes first_segment_field q.path
 
 -- ---- ranges: "out of range; running sum of moments over 2^40"
@@ -112,7 +118,7 @@ ranges_of_moments place before [] = []
 ranges_of_moments place before (age ∷ ages) =
     at (place + 1) (leb (before + age.moment) most_moment) ∷ ranges_of_moments (place + per_age) (before + age.moment) ages
 
-abbrev pub ranges : Quantities → List Check
+unfoldable pub ranges : Quantities → List Check
 ranges q =
     head_ranges q
     ++ (ranges_of_segments first_segment_field q.path
@@ -137,7 +143,7 @@ hours_of_ages place before [] = []
 hours_of_ages place before (age ∷ ages) =
     at place (ltb before age.hour && leb age.hour service_life) ∷ hours_of_ages (place + per_age) age.hour ages
 
-abbrev pub hours : Quantities → List Check
+unfoldable pub hours : Quantities → List Check
 hours q =
     at field_number.end_of_curing (curing_fits q) ∷ at field_number.transfer (transfer_fits q)
     ∷ hours_of_ages (first_age_field (length q.path)) q.transfer q.ages

@@ -1,16 +1,17 @@
 // Row "buffers".
-ghost use Rattle.std.specs.Prelude.{◌≡◌};
-ghost use Rattle.checks.specs.Rows.{first_failing, buffers};
-ghost use Rattle.checks.specs.Readable.{AgeCount};
+ghost use Rattle.std.specs.Prelude.{◌≡◌, ◌≤◌};
+ghost use Rattle.fields.specs.Limits.{most_ages};
+ghost use Rattle.checks.specs.Rows.{checked, buffers};
 
 use crate::row;
 use fields::limits::PER_ROW;
 
-pub fn first_failing(ages: usize, report: usize, scratch: usize) -> u64
-    requires { AgeCount ages }
-    ensures { result ≡ first_failing (buffers ages report scratch) }
+#[tactic(auto, using(crate::proofs::Rows::first))]
+pub fn check(ages: usize, report: usize, scratch: usize) -> Result<(), u64>
+    requires { ages ≤ most_ages }
+    ensures { result ≡ checked (buffers ages report scratch) }
 {
-    let rows = PER_ROW * ages;
-    let failing = row::first(0, 1, rows <= report);
-    row::first(failing, 2, rows <= scratch)
+    let room = PER_ROW * ages;
+    row::check(room <= report, 1)?;
+    row::check(room <= scratch, 2)
 }

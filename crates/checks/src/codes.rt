@@ -1,46 +1,49 @@
 // Row "codes". A place is the number of a field.
-ghost use Rattle.std.specs.Prelude.{◌≡◌};
-ghost use Rattle.fields.specs.Quantities.{per_segment, segments_from, quantities_of};
-ghost use Rattle.checks.specs.Rows.{first_failing, head_codes, segment_codes, codes};
-ghost use Rattle.checks.specs.Readable.{SegmentCount, Listed};
-ghost use Rattle.checks.specs.Places.{head_of};
+ghost use Rattle.std.specs.Prelude.{◌≡◌, ◌+◌, ◌<◌, ◌^◌, length};
+ghost use Rattle.fields.specs.Quantities.{quantities_of, straight, bend, segments_of};
+ghost use Rattle.checks.specs.Rows.{within, checked, head_codes, segment_codes, codes};
 
 use crate::row;
-use fields::layout::{FIRST_SEGMENT, HEAD_FIELDS, PER_SEGMENT, from_element};
+use fields::layout::{FIRST_SEGMENT, PER_SEGMENT};
 use fields::limits::{FIRST_CODE, LAST_CODE, MOST_FIELDS};
 use fields::places;
+use fields::read::Fields;
+use fields::segments::Segment;
 
-fn head_codes(fields: &[u64; MOST_FIELDS]) -> u64
-    ensures { result ≡ first_failing (head_codes (head_of fields.now)) }
+// The codes of lines 1 and 2, whatever the counts are.
+#[tactic(auto, using(crate::proofs::Rows::first))]
+pub fn of_head(numbers: &[u64; MOST_FIELDS]) -> Result<(), u64>
+    ensures { result ≡ checked (head_codes (quantities_of 0 0 numbers.now)) }
 {
-    let failing = row::ranged(fields, 0, places::KIND, FIRST_CODE, LAST_CODE);
-    let failing = row::ranged(fields, failing, places::STEEL, FIRST_CODE, LAST_CODE);
-    let failing = row::ranged(fields, failing, places::CURE, FIRST_CODE, LAST_CODE);
-    row::ranged(fields, failing, places::CONCRETE, FIRST_CODE, LAST_CODE)
+    row::ranged(numbers, places::KIND, FIRST_CODE, LAST_CODE)?;
+    row::ranged(numbers, places::STEEL, FIRST_CODE, LAST_CODE)?;
+    row::ranged(numbers, places::CURE, FIRST_CODE, LAST_CODE)?;
+    row::ranged(numbers, places::CONCRETE, FIRST_CODE, LAST_CODE)
 }
 
-// The codes of the segments with which `part` begins. Its first field is numbered `place`.
-pub fn of_segments(part: &[u64], segments: usize, place: u64) -> u64
-    requires { Listed per_segment segments place part.now }
-    ensures { result ≡ first_failing (segment_codes place (segments_from segments part.now)) }
+fn is_listed(segment: Segment) -> bool
+    ensures { result ≡ within straight bend segment.kind }
 {
-    let mut segment = 0usize;
-    while segment < segments {
-        let at = PER_SEGMENT * segment;
-        let listed = row::in_range(places::STRAIGHT, places::BEND, part[at]);
-        let failing = row::first(0, place + at as u64, listed);
-        if failing != 0 {
-            return failing;
-        }
-        segment += 1;
+    (places::STRAIGHT..=places::BEND).contains(&segment.kind)
+}
+
+// The codes of the segments whose fields `path` has. Its first field is numbered `place`.
+#[tactic(auto, using(crate::proofs::Items::codes_along))]
+pub fn of_segments(path: &[u64], place: u64) -> Result<(), u64>
+    requires { place + length path.now < 2 ^ 64 }
+    ensures { result ≡ checked (segment_codes place (segments_of path.now)) }
+{
+    for (segment, part) in path.chunks_exact(PER_SEGMENT).enumerate() {
+        let listed = is_listed(Segment::at(part));
+        row::check(listed, place + (PER_SEGMENT * segment) as u64)?;
     }
-    0
+    Ok(())
 }
 
-pub fn first_failing(fields: &[u64; MOST_FIELDS], segments: usize) -> u64
-    requires { SegmentCount segments }
-    ensures { result ≡ first_failing (codes (quantities_of segments 0 fields.now)) }
+#[tactic(auto, using(crate::proofs::Parts::codes_in_parts))]
+pub fn check(fields: &Fields) -> Result<(), u64>
+    ensures { result ≡ checked (codes fields.now) }
 {
-    let path = of_segments(from_element(fields, HEAD_FIELDS), segments, FIRST_SEGMENT);
-    row::or_else(head_codes(fields), path)
+    of_head(fields.numbers)?;
+    of_segments(fields.path(), FIRST_SEGMENT)
 }

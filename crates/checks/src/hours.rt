@@ -1,71 +1,58 @@
 // Row "hours". A place is the number of a field.
-ghost use Rattle.std.specs.Prelude.{◌≡◌};
-ghost use Rattle.fields.specs.Quantities.{per_age, ages_from, quantities_of};
-ghost use Rattle.checks.specs.Rows.{first_failing, curing_fits, transfer_fits, hours_of_ages, hours};
-ghost use Rattle.checks.specs.Readable.{Readable, Listed};
-ghost use Rattle.checks.specs.Places.{head_of};
+ghost use Rattle.std.specs.Prelude.{◌≡◌, ◌+◌, ◌<◌, ◌^◌, length};
+ghost use Rattle.fields.specs.Quantities.{ages_of};
+ghost use Rattle.checks.specs.Rows.{checked, curing_fits, transfer_fits, hours_of_ages, hours};
 
 use crate::row;
 use coefficient::clocks;
-use fields::layout::{FIRST_SEGMENT, HEAD_FIELDS, PER_AGE, PER_SEGMENT, from_element};
-use fields::limits::MOST_FIELDS;
+use fields::layout::{FIRST_SEGMENT, PER_AGE};
+use fields::read::Fields;
+use fields::segments::Age;
 use fields::{limits, places};
 
-fn curing_fits(fields: &[u64; MOST_FIELDS]) -> bool
-    ensures { result ≡ curing_fits (head_of fields.now) }
+fn curing_fits(fields: &Fields) -> bool
+    ensures { result ≡ curing_fits fields.now }
 {
-    let curing = fields[places::END_OF_CURING];
-    let transfer = fields[places::TRANSFER];
-    let pretensioned = fields[places::KIND] == places::PRETENSIONED;
-    let kind = row::implies(pretensioned, curing == transfer);
-    let moist = fields[places::CURE] == places::MOIST;
-    let cure = row::implies(moist, curing <= limits::MOST_MOIST_CURING);
-    row::both(row::both(curing <= transfer, kind), cure)
+    let curing = fields.numbers[places::END_OF_CURING];
+    let transfer = fields.numbers[places::TRANSFER];
+    curing <= transfer
+        && (!fields.is_pretensioned() || curing == transfer)
+        && (!fields.is_moist() || curing <= limits::MOST_MOIST_CURING)
 }
 
-fn transfer_fits(fields: &[u64; MOST_FIELDS]) -> bool
-    ensures { result ≡ transfer_fits (head_of fields.now) }
+fn transfer_fits(fields: &Fields) -> bool
+    ensures { result ≡ transfer_fits fields.now }
 {
-    let least = if fields[places::CURE] == places::MOIST {
+    let least = if fields.is_moist() {
         limits::LEAST_MOIST_TRANSFER
     } else {
         limits::LEAST_TRANSFER
     };
-    row::in_range(least, limits::MOST_TRANSFER, fields[places::TRANSFER])
+    (least..=limits::MOST_TRANSFER).contains(&fields.numbers[places::TRANSFER])
 }
 
-// The hours of the ages with which `part` begins, above the hour `before` them. Its first field is numbered `place`.
-pub fn of_ages(part: &[u64], ages: usize, place: u64, before: u64) -> u64
-    requires { Listed per_age ages place part.now }
-    ensures { result ≡ first_failing (hours_of_ages place before (ages_from ages part.now)) }
+// The hours of the ages whose fields `ages` has, above the hour `before` them. Its first field is numbered `place`.
+#[tactic(auto, using(crate::proofs::Items::hours_along))]
+pub fn of_ages(ages: &[u64], place: u64, before: u64) -> Result<(), u64>
+    requires { place + length ages.now < 2 ^ 64 }
+    ensures { result ≡ checked (hours_of_ages place before (ages_of ages.now)) }
 {
     let mut earlier = before;
-    let mut age = 0usize;
-    while age < ages {
-        let at = PER_AGE * age;
-        let hour = part[at];
-        let rises = row::both(earlier < hour, hour <= clocks::SERVICE_LIFE as u64);
-        let failing = row::first(0, place + at as u64, rises);
-        if failing != 0 {
-            return failing;
-        }
+    for (age, part) in ages.chunks_exact(PER_AGE).enumerate() {
+        let hour = Age::at(part).hour;
+        let rises = earlier < hour && hour <= clocks::SERVICE_LIFE as u64;
+        row::check(rises, place + (PER_AGE * age) as u64)?;
         earlier = hour;
-        age += 1;
     }
-    0
+    Ok(())
 }
 
-pub fn first_failing(fields: &[u64; MOST_FIELDS], segments: usize, ages: usize) -> u64
-    requires { Readable segments ages fields.now }
-    ensures { result ≡ first_failing (hours (quantities_of segments ages fields.now)) }
+#[tactic(auto, using(crate::proofs::Rows::first), unfolding(crate::specs::Rows::hours))]
+pub fn check(fields: &Fields) -> Result<(), u64>
+    ensures { result ≡ checked (hours fields.now) }
 {
-    let failing = row::first_field(0, places::END_OF_CURING, curing_fits(fields));
-    let failing = row::first_field(failing, places::TRANSFER, transfer_fits(fields));
-    let path_fields = PER_SEGMENT * segments;
-    let part = from_element(fields, HEAD_FIELDS + path_fields);
-    let place = FIRST_SEGMENT + path_fields as u64;
-    row::or_else(
-        failing,
-        of_ages(part, ages, place, fields[places::TRANSFER]),
-    )
+    row::field(curing_fits(fields), places::END_OF_CURING)?;
+    row::field(transfer_fits(fields), places::TRANSFER)?;
+    let first_age = FIRST_SEGMENT + fields.path().len() as u64;
+    of_ages(fields.ages(), first_age, fields.numbers[places::TRANSFER])
 }

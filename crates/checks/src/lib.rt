@@ -1,5 +1,5 @@
 // The checks of the fields, row by row of document 01's table of refusals: codes, ranges, hours, duct and buffers. Each row gives the
-// place of its first failing check, or 0.
+// place of its first check that fails, if one does.
 
 #![tactic(auto)]
 

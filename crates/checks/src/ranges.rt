@@ -1,231 +1,207 @@
 // Row "ranges", line by line of the card. A place is the number of a field.
-ghost use Rattle.std.specs.Prelude.{◌≡◌, ◌+◌, leb};
-ghost use Rattle.fields.specs.Quantities.{per_segment, per_age, segments_from, ages_from, quantities_of};
+ghost use Rattle.std.specs.Prelude.{◌≡◌, ◌+◌, ◌<◌, ◌^◌, leb, length};
+ghost use Rattle.fields.specs.Quantities.{segments_of, ages_of};
 ghost use Rattle.fields.specs.Limits.{most_moment};
-ghost use Rattle.checks.specs.Rows.{first_failing, jacking_fits, deflector_fits, length_fits, rise_fits, ranges_of_segments};
+ghost use Rattle.checks.specs.Rows.{checked, jacking_fits, deflector_fits, head_ranges, length_fits, rise_fits, ranges_of_segments};
 ghost use Rattle.checks.specs.Rows.{ranges_of_moments, ranges};
-ghost use Rattle.checks.specs.Places.{ranges_of_line1, ranges_of_line2, ranges_of_line3, ranges_of_line4, segment, head_of};
-ghost use Rattle.checks.specs.Readable.{Small, Readable, Listed};
+ghost use Rattle.checks.specs.Places.{ranges_of_line1, ranges_of_line2, ranges_of_line3, ranges_of_line4};
 
 use crate::row;
-use fields::layout::{FIRST_SEGMENT, HEAD_FIELDS, PER_AGE, PER_SEGMENT, from_element};
-use fields::limits::MOST_FIELDS;
+use fields::layout::{FIRST_SEGMENT, PER_AGE, PER_SEGMENT};
+use fields::read::Fields;
+use fields::segments::{Age, Segment};
 use fields::{limits, places};
 
-fn jacking_fits(fields: &[u64; MOST_FIELDS]) -> bool
-    requires { Small fields.now }
-    ensures { result ≡ jacking_fits (head_of fields.now) }
+fn jacking_fits(fields: &Fields) -> bool
+    ensures { result ≡ jacking_fits fields.now }
 {
-    let stress = fields[places::JACKING_STRESS];
-    let most = limits::MOST_OF_STRENGTH * fields[places::ULTIMATE_STRENGTH];
-    row::both(
-        limits::LEAST_JACKING_STRESS <= stress,
-        limits::HUNDREDTHS * stress <= most,
-    )
+    let stress = fields.numbers[places::JACKING_STRESS];
+    let most = limits::MOST_OF_STRENGTH * fields.numbers[places::ULTIMATE_STRENGTH];
+    limits::LEAST_JACKING_STRESS <= stress && limits::HUNDREDTHS * stress <= most
 }
 
-fn deflector_fits(fields: &[u64; MOST_FIELDS]) -> bool
-    ensures { result ≡ deflector_fits (head_of fields.now) }
+fn deflector_fits(fields: &Fields) -> bool
+    ensures { result ≡ deflector_fits fields.now }
 {
-    let loss = fields[places::DEFLECTOR_LOSS];
-    let pretensioned = fields[places::KIND] == places::PRETENSIONED;
-    row::both(
-        loss <= limits::MOST_DEFLECTOR_LOSS,
-        row::either(pretensioned, loss == 0),
-    )
+    let loss = fields.numbers[places::DEFLECTOR_LOSS];
+    loss <= limits::MOST_DEFLECTOR_LOSS && (fields.is_pretensioned() || loss == 0)
 }
 
-fn line_1(fields: &[u64; MOST_FIELDS]) -> u64
-    requires { Small fields.now }
-    ensures { result ≡ first_failing (ranges_of_line1 (head_of fields.now)) }
+#[tactic(auto, using(crate::proofs::Rows::first), unfolding(crate::specs::Places::ranges_of_line1))]
+fn line_1(fields: &Fields) -> Result<(), u64>
+    ensures { result ≡ checked (ranges_of_line1 fields.now) }
 {
-    let failing = row::ranged(
-        fields,
-        0,
+    row::ranged(
+        fields.numbers,
         places::ULTIMATE_STRENGTH,
         limits::LEAST_ULTIMATE_STRENGTH,
         limits::MOST_ULTIMATE_STRENGTH,
-    );
-    let failing = row::first_field(failing, places::JACKING_STRESS, jacking_fits(fields));
-    let failing = row::first_field(failing, places::DEFLECTOR_LOSS, deflector_fits(fields));
-    let failing = row::ranged(fields, failing, places::SLIP, 0, limits::MOST_SLIP);
+    )?;
+    row::field(jacking_fits(fields), places::JACKING_STRESS)?;
+    row::field(deflector_fits(fields), places::DEFLECTOR_LOSS)?;
+    row::ranged(fields.numbers, places::SLIP, 0, limits::MOST_SLIP)?;
     row::ranged(
-        fields,
-        failing,
+        fields.numbers,
         places::TENDON_LENGTH,
         limits::LEAST_TENDON_LENGTH,
         limits::MOST_LENGTH,
     )
 }
 
-fn line_2(fields: &[u64; MOST_FIELDS]) -> u64
-    ensures { result ≡ first_failing (ranges_of_line2 (head_of fields.now)) }
+#[tactic(auto, using(crate::proofs::Rows::first), unfolding(crate::specs::Places::ranges_of_line2))]
+fn line_2(fields: &Fields) -> Result<(), u64>
+    ensures { result ≡ checked (ranges_of_line2 fields.now) }
 {
-    let failing = row::ranged(fields, 0, places::ES, limits::LEAST_ES, limits::MOST_ES);
-    let failing = row::ranged(
-        fields,
-        failing,
+    row::ranged(
+        fields.numbers,
+        places::ES,
+        limits::LEAST_ES,
+        limits::MOST_ES,
+    )?;
+    row::ranged(
+        fields.numbers,
         places::ECI,
         limits::LEAST_EC,
         limits::MOST_EC,
-    );
-    let failing = row::ranged(
-        fields,
-        failing,
+    )?;
+    row::ranged(
+        fields.numbers,
         places::EC,
         limits::LEAST_EC,
         limits::MOST_EC,
-    );
+    )?;
     row::ranged(
-        fields,
-        failing,
+        fields.numbers,
         places::VOLUME_TO_SURFACE,
         limits::LEAST_VOLUME_TO_SURFACE,
         limits::MOST_VOLUME_TO_SURFACE,
     )
 }
 
-fn line_3(fields: &[u64; MOST_FIELDS]) -> u64
-    ensures { result ≡ first_failing (ranges_of_line3 (head_of fields.now)) }
+#[tactic(auto, using(crate::proofs::Rows::first), unfolding(crate::specs::Places::ranges_of_line3))]
+fn line_3(fields: &Fields) -> Result<(), u64>
+    ensures { result ≡ checked (ranges_of_line3 fields.now) }
 {
-    let failing = row::ranged(
-        fields,
-        0,
+    row::ranged(
+        fields.numbers,
         places::AREA,
         limits::LEAST_AREA,
         limits::MOST_AREA,
-    );
-    let failing = row::ranged(
-        fields,
-        failing,
+    )?;
+    row::ranged(
+        fields.numbers,
         places::INERTIA,
         limits::LEAST_INERTIA,
         limits::MOST_INERTIA,
-    );
-    let failing = row::ranged(
-        fields,
-        failing,
+    )?;
+    row::ranged(
+        fields.numbers,
         places::ECCENTRICITY,
         0,
         limits::MOST_ECCENTRICITY,
-    );
-    let failing = row::ranged(
-        fields,
-        failing,
+    )?;
+    row::ranged(
+        fields.numbers,
         places::STEEL_AREA,
         limits::LEAST_STEEL_AREA,
         limits::MOST_STEEL_AREA,
-    );
+    )?;
     row::ranged(
-        fields,
-        failing,
+        fields.numbers,
         places::OWN_WEIGHT_MOMENT,
         0,
         limits::MOST_MOMENT,
     )
 }
 
-fn line_4(fields: &[u64; MOST_FIELDS]) -> u64
-    ensures { result ≡ first_failing (ranges_of_line4 (head_of fields.now)) }
+#[tactic(auto, using(crate::proofs::Rows::first), unfolding(crate::specs::Places::ranges_of_line4))]
+fn line_4(fields: &Fields) -> Result<(), u64>
+    ensures { result ≡ checked (ranges_of_line4 fields.now) }
 {
-    let failing = row::ranged(fields, 0, places::WOBBLE, 0, limits::MOST_WOBBLE);
-    row::ranged(
-        fields,
-        failing,
-        places::CURVATURE,
-        0,
-        limits::MOST_CURVATURE,
-    )
+    row::ranged(fields.numbers, places::WOBBLE, 0, limits::MOST_WOBBLE)?;
+    row::ranged(fields.numbers, places::CURVATURE, 0, limits::MOST_CURVATURE)
 }
 
-fn length_fits(kind: u64, length: u64, rise: u64) -> bool
-    ensures { result ≡ length_fits (segment kind length rise) }
+#[tactic(auto, using(crate::proofs::Parts::head_in_lines))]
+fn head_ranges(fields: &Fields) -> Result<(), u64>
+    ensures { result ≡ checked (head_ranges fields.now) }
 {
-    if kind == places::STRAIGHT {
-        return row::in_range(limits::LEAST_STRAIGHT, limits::MOST_LENGTH, length);
-    }
-    if kind == places::PARABOLA {
-        return row::in_range(limits::LEAST_PARABOLA, limits::MOST_LENGTH, length);
-    }
-    length == 0
+    line_1(fields)?;
+    line_2(fields)?;
+    line_3(fields)?;
+    line_4(fields)
 }
 
-fn rise_fits(kind: u64, length: u64, rise: u64) -> bool
-    ensures { result ≡ rise_fits (segment kind length rise) }
+fn length_fits(segment: Segment) -> bool
+    ensures { result ≡ length_fits segment }
 {
-    if kind == places::STRAIGHT {
-        return rise == 0;
+    let length = segment.length;
+    match segment.kind {
+        places::STRAIGHT => (limits::LEAST_STRAIGHT..=limits::MOST_LENGTH).contains(&length),
+        places::PARABOLA => (limits::LEAST_PARABOLA..=limits::MOST_LENGTH).contains(&length),
+        _ => length == 0,
     }
-    if kind == places::PARABOLA {
-        return rise <= limits::MOST_RISE;
-    }
-    rise <= limits::MOST_ANGLE
 }
 
-// The ranges of the segments with which `part` begins. Its first field is numbered `place`.
-pub fn of_segments(part: &[u64], segments: usize, place: u64) -> u64
-    requires { Listed per_segment segments place part.now }
-    ensures { result ≡ first_failing (ranges_of_segments place (segments_from segments part.now)) }
+fn rise_fits(segment: Segment) -> bool
+    ensures { result ≡ rise_fits segment }
 {
-    let mut segment = 0usize;
-    while segment < segments {
-        let at = PER_SEGMENT * segment;
-        let kind = part[at];
-        let length = part[at + 1];
-        let rise = part[at + 2];
-        let here = place + at as u64;
-        let failing = row::first(0, here + 1, length_fits(kind, length, rise));
-        let failing = row::first(failing, here + 2, rise_fits(kind, length, rise));
-        if failing != 0 {
-            return failing;
-        }
-        segment += 1;
+    match segment.kind {
+        places::STRAIGHT => segment.rise == 0,
+        places::PARABOLA => segment.rise <= limits::MOST_RISE,
+        _ => segment.rise <= limits::MOST_ANGLE,
     }
-    0
+}
+
+// The ranges of the segments whose fields `path` has. Its first field is numbered `place`.
+#[tactic(auto, using(crate::proofs::Items::ranges_along))]
+pub fn of_segments(path: &[u64], place: u64) -> Result<(), u64>
+    requires { place + length path.now < 2 ^ 64 }
+    ensures { result ≡ checked (ranges_of_segments place (segments_of path.now)) }
+{
+    for (index, part) in path.chunks_exact(PER_SEGMENT).enumerate() {
+        let segment = Segment::at(part);
+        let here = place + (PER_SEGMENT * index) as u64;
+        row::check(length_fits(segment), here + 1)?;
+        row::check(rise_fits(segment), here + 2)?;
+    }
+    Ok(())
 }
 
 // All moments together stay within their limit. The sum is not made, so that none can wrap.
 fn moment_fits(before: u64, moment: u64) -> bool
     ensures { result ≡ leb (before + moment) most_moment }
 {
-    if limits::MOST_MOMENT < before {
-        return false;
-    }
-    moment <= limits::MOST_MOMENT - before
+    before <= limits::MOST_MOMENT && moment <= limits::MOST_MOMENT - before
 }
 
-// The moments of the ages with which `part` begins, added to those `before` them. Its first field is numbered `place`.
-pub fn of_moments(part: &[u64], ages: usize, place: u64, before: u64) -> u64
-    requires { Listed per_age ages place part.now }
-    ensures { result ≡ first_failing (ranges_of_moments place before (ages_from ages part.now)) }
+// The moments of the ages whose fields `ages` has, added to those `before` them. Its first field is numbered `place`.
+#[tactic(auto, using(crate::proofs::Items::moments_along))]
+pub fn of_moments(ages: &[u64], place: u64, before: u64) -> Result<(), u64>
+    requires { place + length ages.now < 2 ^ 64 }
+    ensures { result ≡ checked (ranges_of_moments place before (ages_of ages.now)) }
 {
     let mut moments = before;
-    let mut age = 0usize;
-    while age < ages {
-        let at = PER_AGE * age;
-        let moment = part[at + 1];
-        let failing = row::first(0, place + at as u64 + 1, moment_fits(moments, moment));
-        if failing != 0 {
-            return failing;
-        }
+    for (age, part) in ages.chunks_exact(PER_AGE).enumerate() {
+        let moment = Age::at(part).moment;
+        let here = place + (PER_AGE * age) as u64;
+        row::check(moment_fits(moments, moment), here + 1)?;
         moments += moment;
-        age += 1;
     }
-    0
+    Ok(())
 }
 
-pub fn first_failing(fields: &[u64; MOST_FIELDS], segments: usize, ages: usize) -> u64
-    requires { Readable segments ages fields.now }
-    ensures { result ≡ first_failing (ranges (quantities_of segments ages fields.now)) }
+#[tactic(auto, using(crate::proofs::Parts::ranges_in_parts))]
+pub fn check(fields: &Fields) -> Result<(), u64>
+    ensures { result ≡ checked (ranges fields.now) }
 {
-    let failing = row::or_else(line_1(fields), line_2(fields));
-    let failing = row::or_else(failing, line_3(fields));
-    let failing = row::or_else(failing, line_4(fields));
-    let path = of_segments(from_element(fields, HEAD_FIELDS), segments, FIRST_SEGMENT);
-    let failing = row::or_else(failing, path);
-    let path_fields = PER_SEGMENT * segments;
-    let part = from_element(fields, HEAD_FIELDS + path_fields);
-    let place = FIRST_SEGMENT + path_fields as u64;
-    let moments = of_moments(part, ages, place, fields[places::OWN_WEIGHT_MOMENT]);
-    row::or_else(failing, moments)
+    head_ranges(fields)?;
+    let path = fields.path();
+    of_segments(path, FIRST_SEGMENT)?;
+    let first_age = FIRST_SEGMENT + path.len() as u64;
+    of_moments(
+        fields.ages(),
+        first_age,
+        fields.numbers[places::OWN_WEIGHT_MOMENT],
+    )
 }

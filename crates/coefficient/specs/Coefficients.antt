@@ -8,9 +8,8 @@ use Rattle.coefficient.specs.declared.clocks.HoursSinceCuring.{HoursSinceCuring}
 use Rattle.coefficient.specs.declared.clocks.HoursSinceTensioning.{HoursSinceTensioning}
 use Rattle.coefficient.specs.declared.codes.Cure.{Cure}
 use Rattle.coefficient.specs.declared.codes.Concrete.{Concrete}
-use Rattle.tables.specs.declared.factors.Factor.{Factor}
-use Rattle.tables.specs.declared.shares.Share.{Share}
-use Rattle.tables.specs.Tables.{unit_of, factor_reading, share_reading}
+use Rattle.ticks.specs.Ticks.{T}
+use Rattle.tables.specs.Tables.{reading, size_unit, mcf_unit, scf_rows, ssf_rows, mcf_rows, creep_rows, shrinkage_rows}
 
 -- "Hours since transfer (creep)"
 abbrev pub since_transfer : MemberHours → ℕ → HoursSinceTransfer
@@ -31,28 +30,28 @@ since_tensioning hours hour = record { 0 = max 1 (hour - tensioning hours.kind h
 
 -- SCF and SSF by volume/surface in ticks
 unfoldable pub scf : ℕ → ℕ
-unfolding factor_reading
-scf volume_to_surface = factor_reading Factor.Scf volume_to_surface
+unfolding reading
+scf volume_to_surface = reading size_unit scf_rows volume_to_surface
 
 unfoldable pub ssf : ℕ → ℕ
-unfolding factor_reading
-ssf volume_to_surface = factor_reading Factor.Ssf volume_to_surface
+unfolding reading
+ssf volume_to_surface = reading size_unit ssf_rows volume_to_surface
 
 -- "MCF (moist only, else 1) by age at transfer", here in hours
 unfoldable pub mcf : Cure → ℕ → ℕ
-unfolding factor_reading
-mcf Cure.Moist transfer = factor_reading Factor.Mcf transfer
-mcf Cure.Accelerated transfer = unit_of Factor.Mcf
+unfolding reading
+mcf Cure.Moist transfer = reading mcf_unit mcf_rows transfer
+mcf Cure.Accelerated transfer = mcf_unit
 
--- the creep share at a reading of its clock, which reads `life` at hour 438,000 of the member
+-- the creep share at a reading of its clock, which reads `life` at hour 438,000 of the member, "Rounded down to 1/T"
 unfoldable pub creep_share : HoursSinceTransfer → HoursSinceTransfer → ℕ
-unfolding share_reading
-creep_share life clock = share_reading Share.Creep life.0 clock.0
+unfolding reading
+creep_share life clock = reading T (creep_rows life.0) clock.0
 
 -- the shrinkage share at a reading of its clock
 unfoldable pub shrinkage_share : HoursSinceCuring → HoursSinceCuring → ℕ
-unfolding share_reading
-shrinkage_share life clock = share_reading Share.Shrinkage life.0 clock.0
+unfolding reading
+shrinkage_share life clock = reading T (shrinkage_rows life.0) clock.0
 
 -- "b = 95,000,000 moist normal, 76,000,000 moist lightweight, 63,000,000 accelerated"
 abbrev pub ucr_base : Cure → Concrete → ℕ

@@ -1,4 +1,5 @@
-// The three clocks. Each is a type of its own, so that a reading of one cannot enter another's table.
+// The three clocks. Each is a type of its own, so that a reading of one cannot enter another's table. One generic type would be no plainer:
+// each clock would have a type all the same, to tell its hours from the others'.
 ghost use Rattle.std.specs.Prelude.{◌≡◌, ◌-◌};
 ghost use Rattle.coefficient.specs.Coefficients.{since_transfer, since_curing, since_tensioning};
 
@@ -27,34 +28,26 @@ pub struct MemberHours {
 // The last hour of a member, after 50 years.
 pub const SERVICE_LIFE: u32 = 438_000;
 
-fn elapsed(start: u32, hour: u32) -> u32
-    ensures { result ≡ hour - start }
-{
-    if start < hour { hour - start } else { 0 }
-}
-
 impl MemberHours {
     pub fn since_transfer(self, hour: u32) -> HoursSinceTransfer
         ensures { result ≡ since_transfer self hour }
     {
-        HoursSinceTransfer(elapsed(self.transfer, hour))
+        HoursSinceTransfer(hour.saturating_sub(self.transfer))
     }
 
     pub fn since_curing(self, hour: u32) -> HoursSinceCuring
         ensures { result ≡ since_curing self hour }
     {
-        HoursSinceCuring(elapsed(self.end_of_curing, hour))
+        HoursSinceCuring(hour.saturating_sub(self.end_of_curing))
     }
 
     pub fn since_tensioning(self, hour: u32) -> HoursSinceTensioning
         ensures { result ≡ since_tensioning self hour }
     {
-        let kind = self.kind;
-        let tensioning = match kind {
+        let tensioning = match self.kind {
             Kind::Pretensioned => 0,
             Kind::PostTensioned => self.transfer,
         };
-        let hours = elapsed(tensioning, hour);
-        HoursSinceTensioning(if hours < 1 { 1 } else { hours })
+        HoursSinceTensioning(hour.saturating_sub(tensioning).max(1))
     }
 }

@@ -3,7 +3,6 @@
 
 ghost use Rattle.std.specs.Prelude.{◌≡◌, ◌-◌, max};
 ghost use Rattle.logarithm.specs.Logarithm.{logarithm};
-ghost use Rattle.logarithm.specs.Table.{IsTable};
 ghost use Rattle.coefficient.specs.Coefficients.{scf, ssf, mcf, creep_share, shrinkage_share, ucr, ush};
 
 pub mod clocks;
@@ -11,57 +10,56 @@ pub mod codes;
 
 use clocks::{HoursSinceCuring, HoursSinceTensioning, HoursSinceTransfer};
 use codes::{Concrete, Cure};
-use tables::factors::Factor;
-use tables::shares::Share;
 use tables::{factors, shares};
 
 // The creep factor of volume/surface, in 102,400ths.
+#[tactic(auto, unfolding(crate::specs::Coefficients::scf))]
 pub fn scf_of(volume_to_surface: u32) -> u64
     ensures { result ≡ scf volume_to_surface }
 {
-    factors::reading(Factor::Scf, volume_to_surface)
+    factors::scf(volume_to_surface)
 }
 
 // The shrinkage factor of volume/surface, in 102,400ths.
+#[tactic(auto, unfolding(crate::specs::Coefficients::ssf))]
 pub fn ssf_of(volume_to_surface: u32) -> u64
     ensures { result ≡ ssf volume_to_surface }
 {
-    factors::reading(Factor::Ssf, volume_to_surface)
+    factors::ssf(volume_to_surface)
 }
 
 // The creep factor of the age at transfer, in 72,000ths.
+#[tactic(auto, unfolding(crate::specs::Coefficients::mcf))]
 pub fn mcf_of(cure: Cure, transfer: u32) -> u64
     ensures { result ≡ mcf cure transfer }
 {
     match cure {
-        Cure::Moist => factors::reading(Factor::Mcf, transfer),
+        Cure::Moist => factors::mcf(transfer),
         Cure::Accelerated => factors::MCF_UNIT,
     }
 }
 
 // The share of creep that is done, in 1/T. The clock reads `life` at the end of the service life.
+#[tactic(auto, unfolding(crate::specs::Coefficients::creep_share))]
 pub fn creep_share(life: HoursSinceTransfer, clock: HoursSinceTransfer) -> u64
     ensures { result ≡ creep_share life clock }
 {
-    shares::reading(Share::Creep, life.0, clock.0)
+    shares::creep(life.0, clock.0)
 }
 
 // The share of shrinkage that is done, in 1/T.
+#[tactic(auto, unfolding(crate::specs::Coefficients::shrinkage_share))]
 pub fn shrinkage_share(life: HoursSinceCuring, clock: HoursSinceCuring) -> u64
     ensures { result ≡ shrinkage_share life clock }
 {
-    shares::reading(Share::Shrinkage, life.0, clock.0)
+    shares::shrinkage(life.0, clock.0)
 }
 
 // The logarithm of relaxation's clock.
-pub fn relaxation_logarithm(
-    thresholds: &[u32; logarithm::ENTRIES],
-    clock: HoursSinceTensioning,
-) -> u64
-    requires { IsTable thresholds.now }
+pub fn relaxation_logarithm(clock: HoursSinceTensioning) -> u64
     ensures { result ≡ logarithm clock.0 }
 {
-    logarithm::reading(thresholds, clock.0)
+    logarithm::reading(clock.0)
 }
 
 // UCR and USH: where they begin, what a psi of Ec takes from them, and the least they can be.
@@ -85,19 +83,6 @@ const USH_LIGHTWEIGHT_A_PSI: u64 = 10_000;
 
 const USH_LEAST: u64 = 12_000_000_000;
 
-// from - less, where that is more than `least`.
-fn reduced(from: u64, less: u64, least: u64) -> u64
-    ensures { result ≡ max least (from - less) }
-{
-    if less < from {
-        let left = from - less;
-        if least < left {
-            return left;
-        }
-    }
-    least
-}
-
 // The whole creep of 1 psi of concrete stress, in millionths of psi.
 #[tactic(auto, unfolding(crate::specs::Coefficients::ucr))]
 pub fn ucr_of(cure: Cure, concrete: Concrete, ec: u32) -> u64
@@ -110,19 +95,17 @@ pub fn ucr_of(cure: Cure, concrete: Concrete, ec: u32) -> u64
         },
         Cure::Accelerated => UCR_ACCELERATED,
     };
-    reduced(base, UCR_A_PSI * (ec as u64), UCR_LEAST)
+    base.saturating_sub(UCR_A_PSI * (ec as u64)).max(UCR_LEAST)
 }
 
 // The whole shrinkage, in millionths of psi.
+#[tactic(auto, unfolding(crate::specs::Coefficients::ush))]
 pub fn ush_of(concrete: Concrete, ec: u32) -> u64
     ensures { result ≡ ush concrete ec }
 {
-    match concrete {
-        Concrete::Normal => reduced(USH_NORMAL, USH_NORMAL_A_PSI * (ec as u64), USH_LEAST),
-        Concrete::Lightweight => reduced(
-            USH_LIGHTWEIGHT,
-            USH_LIGHTWEIGHT_A_PSI * (ec as u64),
-            USH_LEAST,
-        ),
-    }
+    let (base, a_psi) = match concrete {
+        Concrete::Normal => (USH_NORMAL, USH_NORMAL_A_PSI),
+        Concrete::Lightweight => (USH_LIGHTWEIGHT, USH_LIGHTWEIGHT_A_PSI),
+    };
+    base.saturating_sub(a_psi * (ec as u64)).max(USH_LEAST)
 }

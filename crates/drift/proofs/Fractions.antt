@@ -13,7 +13,9 @@ use lib.ListN.{length, get_or}
 use Rattle.fraction.specs.Fraction.{Fraction, whole, ◌⊖◌, ◌≼◌, larger, Within}
 use Rattle.fraction.proofs.Laws.{larger_left, larger_right}
 use Rattle.fraction.proofs.Slopes.{constant_keeps_distance}
-use Rattle.fields.specs.Quantities.{Quantities, Segment, Age}
+use Rattle.fields.specs.declared.segments.Age.{Age}
+use Rattle.fields.specs.declared.segments.Segment.{Segment}
+use Rattle.fields.specs.Quantities.{Quantities}
 use Rattle.coefficient.specs.declared.codes.Kind.{Kind}
 use Rattle.coefficient.specs.declared.codes.Kind.TheVariants.{Pretensioned, PostTensioned}
 use Rattle.member.specs.Constants.{jacked}

@@ -10,22 +10,21 @@ use native.Mathlib.Decide.{dec_lt}
 use native.Mathlib.Omega.{arith}
 use lib.Dec.{lit≤}
 use lib.ListN.{length, drop}
-use Rattle.fields.specs.declared.refusal.Reading.TheVariants.{Fields}
+use Rattle.std.specs.Prelude.{Ok, Err}
 use Rattle.fields.specs.Limits.{most_segments, most_ages}
-use Rattle.fields.specs.Outcomes.{OrRefusal, Gives, Refuses}
+use Rattle.fields.specs.Outcomes.{OrRefusal}
 use Rattle.fields.specs.Quantities.{Quantities, head_fields, per_segment, quantities_read}
 use Rattle.fields.specs.Refusals.{acceptance_number}
-use Rattle.fields.proofs.Accepted.{Accepted}
+use Rattle.fields.specs.Readable.{AcceptedIfRead}
 use Rattle.fields.proofs.Laws.{segments_length, ages_length}
 use Rattle.fields.proofs.Refusals.{refusal_number}
-use Rattle.card.proofs.Laws.{card_accepted}
-use Rattle.list.proofs.Laws.{list_accepted}
+use Rattle.card.specs.Laws.{card_accepted}
+use Rattle.list.specs.Laws.{list_accepted}
 use Rattle.numbers.specs.Numbers.{room}
-use Rattle.numbers.proofs.ListBytes.{bytes_accepted}
-use Rattle.checks.proofs.Reading.{of_read}
+use Rattle.numbers.specs.Laws.{bytes_accepted}
+use Rattle.fields.proofs.Reading.{of_read}
 use Rattle.stages.specs.Run.{Report, result_read}
-use Rattle.entries.specs.declared.Answer.{Answer}
-use Rattle.entries.specs.Answers.{answer_of, answer_number, Ran}
+use Rattle.entries.specs.Answers.{Answer, answer_of, answer_number, Ran}
 use Rattle.entries.specs.Promise.{Promise}
 use Rattle.stratelyn.specs.Hosts.{reply_bytes, Hosted, Served}
 use Rattle.drift.specs.Drift.{follows_path, TwoGauges, Drift}
@@ -36,25 +35,24 @@ use Rattle.drift.proofs.TwoRuns.{drift}
 -- ---- the runs of two inputs
 
 -- the counts of what was read are in their ranges
-read_accepted : (input : Input) (segments ages : ℕ) → (read input).reading ≡ Fields segments ages
-    → Accepted (read input).numbers segments ages
+read_accepted : (input : Input) → AcceptedIfRead (read input)
 read_accepted (card lines) = card_accepted lines
 read_accepted (list doubles) = list_accepted doubles
 read_accepted (bytes doubles) = bytes_accepted doubles
 
-few : (input : Input) (q : Quantities) → quantities_read (read input) ≡ Gives q
+few : (input : Input) (q : Quantities) → quantities_read (read input) ≡ Ok q
     → (length q.path ≤ most_segments) × (length q.ages ≤ most_ages)
 few input =
     of_read (read input) (λ q. (length q.path ≤ most_segments) × (length q.ages ≤ most_ages))
-    (λ segments ages e.
-    let good = read_accepted input segments ages e in
+    (λ counts e.
+    let good = read_accepted input counts e in
     let fields = (read input).numbers in (
-      rw (segments_length segments (drop head_fields fields)) good.few_segments,
-      rw (ages_length ages (drop (head_fields + per_segment * segments) fields)) good.few_ages,
+      rw (segments_length counts.segments (drop head_fields fields)) good.few_segments,
+      rw (ages_length counts.ages (drop (head_fields + per_segment * counts.segments) fields)) good.few_ages,
     ))
 
-run_of : (input : Input) {q : Quantities} → quantities_read (read input) ≡ Gives q → (0 < q.jacking_stress → follows_path q ≡ false)
-    → (report scratch : ℕ) {given : Report} → result_read (read input) report scratch ≡ Gives given → AcceptedRun q given
+run_of : (input : Input) {q : Quantities} → quantities_read (read input) ≡ Ok q → (0 < q.jacking_stress → follows_path q ≡ false)
+    → (report scratch : ℕ) {given : Report} → result_read (read input) report scratch ≡ Ok given → AcceptedRun q given
 run_of input {q} is_read over report scratch ran =
     let (few_segments, few_ages) = few input q is_read in
     accepted_run q report scratch few_segments few_ages over (rw is_read at ran)
@@ -77,17 +75,17 @@ drift_of {q} {p} gauges run run' =
 -- what holds of a result that has the number of what is accepted
 gave : (input : Input) (report scratch : ℕ) (Holds : OrRefusal Report → Type 0) → Holds (result_read (read input) report scratch)
     → answer_number (answer_of (result_read (read input) report scratch)) ≡ acceptance_number
-    → Gave input report scratch (λ given. Holds (Gives given))
+    → Gave input report scratch (λ given. Holds (Ok given))
 gave input report scratch Holds holds accepted = by (result_read (read input) report scratch) refl
   where
     by : (result : OrRefusal Report) → result_read (read input) report scratch ≡ result
-        → Gave input report scratch (λ given. Holds (Gives given))
-    by (Gives given) is = record { given = given; given_is = is; is_returned = rw is at holds }
-    by (Refuses refusal) is = absurd (omega (arith, refusal_number refusal, rw is at accepted))
+        → Gave input report scratch (λ given. Holds (Ok given))
+    by (Ok given) is = record { given = given; given_is = is; is_returned = rw is at holds }
+    by (Err refusal) is = absurd (omega (arith, refusal_number refusal, rw is at accepted))
 
 answered : (input : Input) {answer : Answer} {report report_was scratch scratch_was : List ℕ}
     → Promise (read input) answer report report_was scratch scratch_was → answer_number answer ≡ acceptance_number
-    → Gave input (length report_was) (length scratch_was) (λ given. Ran (Gives given) answer report report_was scratch scratch_was)
+    → Gave input (length report_was) (length scratch_was) (λ given. Ran (Ok given) answer report report_was scratch scratch_was)
 answered input {answer} {report} {report_was} {scratch} {scratch_was} promise accepted =
     gave input (length report_was) (length scratch_was) (λ result. Ran result answer report report_was scratch scratch_was)
     promise.exact (sym promise.exact.answered.number_is ∙ accepted)
@@ -96,7 +94,7 @@ answered input {answer} {report} {report_was} {scratch} {scratch_was} promise ac
 hosted : (input : Input) {number : ℕ} {report report_was scratch scratch_was reply reply_was : List ℕ}
     → Served (read input) number report report_was scratch scratch_was reply reply_was → number ≡ acceptance_number
     → Gave input (room (length report_was)) (room (length scratch_was))
-    (λ given. Hosted (Gives given) number report report_was reply reply_was)
+    (λ given. Hosted (Ok given) number report report_was reply reply_was)
 hosted input {number} {report} {report_was} {scratch} {scratch_was} {reply} {reply_was} served accepted =
     let enough = served.exact (by (dec_lt (length reply_was) reply_bytes)) in
     gave input (room (length report_was)) (room (length scratch_was)) (λ result. Hosted result number report report_was reply reply_was)

@@ -15,7 +15,9 @@ use Rattle.ticks.specs.Ticks.{ticks_per_unit}
 use Rattle.logarithm.specs.Logarithm.{service_life}
 use Rattle.coefficient.specs.declared.codes.Kind.{Kind}
 use Rattle.coefficient.specs.declared.codes.Kind.TheVariants.{Pretensioned, PostTensioned}
-use Rattle.fields.specs.Quantities.{Quantities, Segment, Age}
+use Rattle.fields.specs.declared.segments.Age.{Age}
+use Rattle.fields.specs.declared.segments.Segment.{Segment}
+use Rattle.fields.specs.Quantities.{Quantities}
 use Rattle.formulas.specs.Steps.{stress_left, relaxation_loss}
 use Rattle.formulas.proofs.Laws.{stress_left_most}
 use Rattle.member.specs.Constants.{jacked, stress_along, path_friction}

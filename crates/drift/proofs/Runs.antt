@@ -11,12 +11,14 @@ use native.Mathlib.Omega.{arith}
 use lib.Dec.{ltb, lit<, lit≤}
 use lib.ListN.{length}
 use borrow.Author.Tests.{lt-ltb, le-ltb}
+use Rattle.std.specs.Prelude.{Ok}
 use Rattle.ticks.specs.Ticks.{ticks_per_unit, T}
 use Rattle.exponential.specs.Factor.{factor}
 use Rattle.exponential.proofs.Turns.{factor_most}
-use Rattle.fields.specs.Quantities.{Quantities, Segment, Age}
+use Rattle.fields.specs.declared.segments.Age.{Age}
+use Rattle.fields.specs.declared.segments.Segment.{Segment}
+use Rattle.fields.specs.Quantities.{Quantities}
 use Rattle.fields.specs.Limits.{most_segments, most_ages}
-use Rattle.fields.specs.Outcomes.{Gives}
 use Rattle.fields.proofs.Onward.{through}
 use Rattle.formulas.specs.Steps.{friction_loss, slip_loss}
 use Rattle.member.specs.Constants.{jacked, stress_along}
@@ -35,7 +37,7 @@ pub record AcceptedRun (q : Quantities) (given : Report) : Type 0 where
   pub few_segments : length q.path ≤ most_segments
   pub few_ages : length q.ages ≤ most_ages
   pub facts : Facts q report scratch
-  pub result_is : member_result (member_of q) q.ages ≡ Gives given
+  pub result_is : member_result (member_of q) q.ages ≡ Ok given
   pub began : Began q given.before
   pub ran : AgesRun q q.own_weight_moment q.transfer given.before.stress q.ages given.rows given.last
   pub over_the_tendon : slip_dies_out q given.before ≡ false
@@ -43,7 +45,7 @@ pub record AcceptedRun (q : Quantities) (given : Report) : Type 0 where
 
 -- an accepted member has a jacking stress above 0
 pub accepted_run : (q : Quantities) (report scratch : ℕ) {given : Report} → length q.path ≤ most_segments
-    → length q.ages ≤ most_ages → (0 < q.jacking_stress → follows_path q ≡ false) → result_of q report scratch ≡ Gives given
+    → length q.ages ≤ most_ages → (0 < q.jacking_stress → follows_path q ≡ false) → result_of q report scratch ≡ Ok given
     → AcceptedRun q given
 accepted_run q report scratch {given} few_segments few_ages over result =
     let checked = through (checked_of q report scratch) (λ m. member_result m q.ages) result in

@@ -14,7 +14,9 @@ use Rattle.fraction.proofs.Floors.{whole_order}
 use Rattle.ticks.specs.Ticks.{ticks_per_unit}
 use Rattle.exponential.specs.Factor.{powers}
 use Rattle.exponential.specs.Series.{sum_to}
-use Rattle.fields.specs.Quantities.{Quantities, Segment, Age}
+use Rattle.fields.specs.declared.segments.Age.{Age}
+use Rattle.fields.specs.declared.segments.Segment.{Segment}
+use Rattle.fields.specs.Quantities.{Quantities}
 use Rattle.member.specs.Constants.{jacked}
 use Rattle.stages.specs.Run.{Report}
 use Rattle.tolerance.specs.Method.{Choice, exponent_along, Admissible, table_choice}

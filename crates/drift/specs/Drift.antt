@@ -4,7 +4,9 @@ use Rattle.fraction.specs.Fraction.{whole, Within}
 use Rattle.ticks.specs.Ticks.{ticks_per_unit}
 use Rattle.exponential.specs.Factor.{powers}
 use Rattle.exponential.specs.Series.{sum_to}
-use Rattle.fields.specs.Quantities.{Quantities, Segment, Age, quantities_by, field_number}
+use Rattle.fields.specs.declared.segments.Age.{Age}
+use Rattle.fields.specs.declared.segments.Segment.{Segment}
+use Rattle.fields.specs.Quantities.{Quantities, quantities_by, field_number}
 use Rattle.formulas.specs.Steps.{friction_loss, dies_out}
 use Rattle.member.specs.Constants.{jacked}
 use Rattle.member.specs.Member.{friction_of, path_length_of}

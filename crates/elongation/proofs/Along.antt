@@ -9,7 +9,8 @@ use lib.Dec.{lit<}
 use lib.ListN.{take, drop}
 use Rattle.ticks.specs.Ticks.{T}
 use Rattle.exponential.specs.Factor.{turns, factor}
-use Rattle.fields.specs.Quantities.{Quantities, Segment}
+use Rattle.fields.specs.Quantities.{Quantities}
+use Rattle.fields.specs.declared.segments.Segment.{Segment}
 use Rattle.member.specs.Constants.{segment_friction, path_friction, jacked, stress_along}
 use Rattle.member.specs.Facts.{SegmentFits, SegmentsFit, no_segment, segment_fits}
 

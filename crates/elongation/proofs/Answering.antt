@@ -3,20 +3,17 @@
 use mathlib.Core.Path.{◌≡◌, refl, ◌∙◌}
 use mathlib.Core.List.{List, []}
 use Prim.Native.Nat.{ℕ}
-use lib.ListN.{length, replicate}
+use lib.ListN.{length, drop}
+use Rattle.std.specs.Prelude.{Ok, Err}
 use Rattle.fields.specs.declared.refusal.Refusal.{Refusal}
-use Rattle.fields.specs.declared.refusal.Reading.{Reading}
-use Rattle.fields.specs.declared.refusal.Reading.TheVariants.{Fields}
-use Rattle.fields.specs.Outcomes.{OrRefusal, Gives, Refuses, onward, Outcome, over}
-use Rattle.fields.specs.Quantities.{Quantities, quantities_in}
-use Rattle.fields.specs.Sizes.{most_fields}
-use Rattle.fields.proofs.Accepted.{Accepted}
+use Rattle.fields.specs.Outcomes.{OrRefusal, onward, Outcome}
+use Rattle.fields.specs.Quantities.{Quantities, head_fields}
+use Rattle.fields.specs.Readable.{AcceptedIfRead}
+use Rattle.fields.proofs.Laws.{segments_length}
+use Rattle.fields.proofs.Reading.{of_read}
 use Rattle.checks.specs.Rows.{checked_by}
 use Rattle.checks.proofs.Cascade.{in_parts}
-use Rattle.checks.proofs.Reading.{of_read, same_read}
-use Rattle.elongation.specs.declared.SheetAnswer.{SheetAnswer}
-use Rattle.elongation.specs.declared.SheetAnswer.TheVariants.{Accepted as Sheeted, Refused}
-use Rattle.elongation.specs.Sheet.{Sheet, sheet_of, total_of, sheet_rows, sheet_result, Written}
+use Rattle.elongation.specs.Sheet.{SheetAnswer, sheet_of, total_of, sheet_rows, sheet_result, sheet_read}
 use Rattle.elongation.specs.Close.{SheetClose}
 use Rattle.elongation.specs.Conditions.{Stretched, Answered}
 use Rattle.elongation.specs.Promise.{CloseIfAccepted, SheetPromise}
@@ -24,41 +21,34 @@ use Rattle.elongation.proofs.Closeness.{close}
 
 -- ---- what the rows decide
 
-module _ (q : Quantities) (room : ℕ) {rows : OrRefusal (Unit {0})} (checked : rows ≡ checked_by (sheet_rows q room) tt) where
-  by_rows : sheet_result q room ≡ onward rows (λ held. Gives (sheet_of q))
+module _ (q : Quantities) (room : ℕ) where
+  by_rows : {rows : OrRefusal (Unit {0})} → rows ≡ checked_by (sheet_rows q room) tt
+      → sheet_result q room ≡ onward rows (λ held. Ok (sheet_of q))
   unfolding sheet_result checked_by
-  by_rows = in_parts (sheet_rows q room) [] (tt {0}) (sheet_of q) ∙ rw (← checked)
+  by_rows made = in_parts (sheet_rows q room) [] (tt {0}) (sheet_of q) ∙ rw made refl
 
-  pub row_refuses : (refusal : Refusal) (sheet : List ℕ) → rows ≡ Refuses refusal
-      → Answered (sheet_result q room) (Refused refusal) sheet sheet
-  row_refuses refusal sheet e = rw (by_rows, e) (record { answer_is = refl; sheet_is = refl })
+  pub row_refuses : {refusal : Refusal} → Err refusal ≡ checked_by {A = Unit {0}} (sheet_rows q room) tt → (sheet : List ℕ)
+      → Answered (sheet_result q room) (Err refusal) sheet sheet
+  row_refuses made sheet = rw (by_rows made) (record { answer_is = refl; sheet_is = refl })
 
-  pub rows_hold : (sum : ℕ) (sheet old : List ℕ) → rows ≡ Gives tt → Stretched q sum sheet old
-      → Answered (sheet_result q room) (Sheeted (total_of sum)) sheet old
+  pub rows_hold : Ok (tt {0}) ≡ checked_by (sheet_rows q room) tt → {sum : ℕ} {sheet old : List ℕ} → Stretched q sum sheet old
+      → Answered (sheet_result q room) (Ok (total_of sum)) sheet old
   unfolding sheet_of
-  rows_hold sum sheet old e stretched =
-      rw (by_rows, e) (record { answer_is = rw stretched.sum_is; sheet_is = stretched.sheet_is })
+  rows_hold made stretched = rw (by_rows made) (record { answer_is = rw stretched.sum_is; sheet_is = stretched.sheet_is })
 
 -- ---- from a reader to the promise
 
-written : (result : OrRefusal Sheet) {answer : SheetAnswer} {sheet old : List ℕ} → Answered result answer sheet old
-    → Written result answer sheet old
-written result answered =
-    record { number_is = rw answered.answer_is; values_are = rw answered.answer_is; sheet_is = answered.sheet_is }
-
-module _ (outcome : Outcome)
-    (counted : (segments ages : ℕ) → outcome.reading ≡ Fields segments ages → Accepted outcome.numbers segments ages) where
+module _ (outcome : Outcome) (accepted : AcceptedIfRead outcome) where
   all_close : (room : ℕ) → CloseIfAccepted outcome room
   all_close room q given read =
-      of_read outcome (λ q. sheet_result q room ≡ Gives given → SheetClose q given)
-      (λ segments ages e. close segments ages outcome.numbers (counted segments ages e).few_segments room given) q read
+      of_read outcome (λ q. sheet_result q room ≡ Ok given → SheetClose q given)
+      (λ counts e. let few = (accepted counts e).few_segments in
+      close _ (rw (segments_length counts.segments (drop head_fields outcome.numbers)) few) room given) q read
 
-  pub promised : (reading : Reading) (fields : List ℕ) → reading ≡ outcome.reading
-      → fields ≡ over outcome.numbers (replicate most_fields 0) → {answer : SheetAnswer} {sheet sheet_was : List ℕ}
-      → Answered (onward (quantities_in reading fields) (λ q. sheet_result q (length sheet_was))) answer sheet sheet_was
+  pub promised : {answer : SheetAnswer} {sheet sheet_was : List ℕ} → Answered (sheet_read outcome (length sheet_was)) answer sheet sheet_was
       → SheetPromise outcome answer sheet sheet_was
-  promised reading fields is fields_are answered =
+  promised answered =
       record {
-        exact = written _ (rw (same_read outcome counted reading fields is fields_are) at answered);
+        exact = record { number_is = rw answered.answer_is; values_are = rw answered.answer_is; sheet_is = answered.sheet_is };
         close = all_close _;
       }

@@ -7,7 +7,8 @@ use Prim.Native.Nat.{ℕ, zero, suc, ◌+◌, ◌*◌, ◌/◌, ◌≤◌, ◌<�
 use native.Mathlib.Nat.{zero-add, mul-le-mul, mul-le-mul_right}
 use native.Mathlib.Omega.{arith}
 use lib.Dec.{lit<}
-use lib.ListN.{length, get_or, drop}
+use lib.ListN.{length, get_or}
+use Rattle.std.specs.Prelude.{Ok}
 use Rattle.fraction.specs.Fraction.{Fraction, whole, ◌⊕◌, ◌⊗◌, ◌÷◌, ◌≼◌, Within}
 use Rattle.fraction.specs.Equality.{◌≈◌}
 use Rattle.fraction.proofs.Laws.{≈-refl, ≈-sym, ◌⨾◌, ≼_refl, ≼_trans, ≼-of-≈, ⊕-cong, ⊕-mono, ⊗-cong, ⊗-mono, ⊗-comm, whole-⊕}
@@ -16,14 +17,12 @@ use Rattle.fraction.proofs.Quotients.{quotient, quotient_not_negative, quotient_
 use Rattle.fraction.proofs.Distances.{within_refl, within_trans, within_weaken, within_resp_≈, within_equal, within_sum, within_scaled}
 use Rattle.fraction.proofs.Certificate.{num, ◌⊞◌, ◌⊠◌, ◌⊑◌, ◌≐◌, ◌⊛◌, ◌⊢◌, identity, follows}
 use Rattle.ticks.specs.Ticks.{ticks_per_unit}
-use Rattle.fields.specs.Outcomes.{Gives}
-use Rattle.fields.specs.Quantities.{head_fields, Quantities, Segment, quantities_of}
+use Rattle.fields.specs.Quantities.{Quantities}
+use Rattle.fields.specs.declared.segments.Segment.{Segment}
 use Rattle.fields.specs.Limits.{range, most_length, most_segments}
-use Rattle.fields.proofs.Laws.{segments_length}
 use Rattle.checks.proofs.Cascade.{given_is}
 use Rattle.member.specs.Constants.{jacked, stress_along as ticks_along}
 use Rattle.member.specs.Facts.{SegmentsFit, no_segment, segment_fits}
-use Rattle.member.proofs.Laws.{head_alone}
 use Rattle.tolerance.specs.Method.{FactorsAlong, stress_along}
 use Rattle.tolerance.proofs.Rounded.{rounded_within, floor_rounded}
 use Rattle.tolerance.proofs.Concrete.{highest_stress}
@@ -167,20 +166,14 @@ measurable_small (suc s) few = record { at_most = omega (arith, mul-le-mul_right
 
 -- ---- an accepted sheet
 
-module _ (segments ages : ℕ) (fields : List ℕ) (few : segments ≤ most_segments) where
-  abbrev q : Quantities
-  q = quantities_of segments ages fields
-
-  few_segments : length q.path ≤ most_segments
-  few_segments = rw (segments_length segments (drop head_fields fields)) few
-
+module _ (q : Quantities) (few : length q.path ≤ most_segments) where
   module _ {room : ℕ} (known : Passed q room) where
     stiff : range.Es.low ≤ q.Es
-    stiff = (head_alone segments ages fields known.fields).es_least
+    stiff = known.below_hours.head.es_least
 
     jacked_low : jacked q ≤ highest_stress
     jacked_low =
-        let head = head_alone segments ages fields known.fields in
+        let head = known.below_hours.head in
         let low = head.jacking_most in
         let strong = head.ultimate_most in
         omega arith
@@ -190,7 +183,7 @@ module _ (segments ages : ℕ) (fields : List ℕ) (few : segments ≤ most_segm
           → Within (whole (stress_distance j)) (whole (ticks_along q j)) (stress_along factor q j)
       stress_near j h =
           within_weaken (whole_order (omega arith))
-          (along_close q known.fields.segments few_segments known.friction_most jacked_low factors j h)
+          (along_close q known.below_hours.segments_fit few known.friction_most jacked_low factors j h)
 
       sum_close :
           Within (sum_distance (length q.path)) (whole (ticks_sum (ticks_from q.Es (ticks_along q) 0 q.path)))
@@ -199,7 +192,7 @@ module _ (segments ages : ℕ) (fields : List ℕ) (few : segments ≤ most_segm
           let s = length q.path in
           let first : 60 * (s * 0) + (30 * (s * s) + 122 * s) ≡ 30 * (s * s) + 122 * s = omega arith in
           rw first at
-          (sum_near q.Es stiff (ticks_along q) (stress_along factor q) s stress_near 0 known.fields.segments (omega arith))
+          (sum_near q.Es stiff (ticks_along q) (stress_along factor q) s stress_near 0 known.below_hours.segments_fit (omega arith))
 
       measurable_of : (path : List Segment)
           → Within (sum_distance (length path)) (whole (ticks_sum (ticks_from q.Es (ticks_along q) 0 path)))
@@ -216,7 +209,7 @@ module _ (segments ages : ℕ) (fields : List ℕ) (few : segments ≤ most_segm
       near = record {
         count = exact_count q.Es (stress_along factor q) 0 q.path;
         segments = λ j h. rw (zero-add j) at
-            (each_near q.Es stiff (ticks_along q) (stress_along factor q) (length q.path) stress_near 0 known.fields.segments
+            (each_near q.Es stiff (ticks_along q) (stress_along factor q) (length q.path) stress_near 0 known.below_hours.segments_fit
             (omega arith) j h);
         sum = sum_close;
         measurable = measurable_of q.path sum_close;
@@ -227,11 +220,11 @@ module _ (segments ages : ℕ) (fields : List ℕ) (few : segments ≤ most_segm
     sheet_close = record {
       count = ticks_count q.Es (ticks_along q) 0 q.path;
       near = λ factor factors. near factors;
-      some_factors = some_factors q known.fields.segments few_segments known.friction_most;
-      sum_small = sum_small (length q.path) few_segments;
-      measurable_small = measurable_small (length q.path) few_segments;
+      some_factors = some_factors q known.below_hours.segments_fit few known.friction_most;
+      sum_small = sum_small (length q.path) few;
+      measurable_small = measurable_small (length q.path) few;
     }
 
-  pub close : (room : ℕ) (given : Sheet) → sheet_result q room ≡ Gives given → SheetClose q given
+  pub close : (room : ℕ) (given : Sheet) → sheet_result q room ≡ Ok given → SheetClose q given
   unfolding sheet_result
   close room given e = rw (given_is (sheet_rows q room) (sheet_of q) e) (sheet_close (passed q room (sheet_of q) e))

@@ -1,4 +1,5 @@
 pub mod Along
+pub mod Counting
 mod Passing
 mod Walk
 pub mod Closeness

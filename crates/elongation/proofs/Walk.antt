@@ -1,5 +1,6 @@
 -- The elongations of a path are written segment by segment: those that are written and those of the segments left make the whole, and X,
--- the stress before the next segment and the sum are those of the segments that are passed. Assumes nothing.
+-- the stress before the next segment and the sum are those of the segments that are passed. The segments left are those of the fields that
+-- are left to be cut into parts. Assumes nothing.
 use mathlib.Core.Path.{◌≡◌, refl, sym, ap, ◌∙◌}
 use mathlib.Core.List.{List, [], ◌∷◌, ◌++◌, append_assoc, append-nil}
 use Prim.Native.Nat.{ℕ, suc, ◌+◌, ◌*◌, ◌≤◌, ◌<◌}
@@ -7,21 +8,46 @@ use native.Mathlib.Numerals.{add-one}
 use native.Mathlib.Nat.{le_trans}
 use native.Mathlib.Omega.{arith}
 use lib.ListN.{length, take, drop, set, length-append, length-drop}
+use Rattle.std.proofs.lemmas.List.{drop-drop}
 use Rattle.formulas.specs.Steps.{stress_left}
 use Rattle.formulas.specs.Conditions.{stress_limit, FrictionFits}
 use Rattle.formulas.proofs.Laws.{stress_left_most}
 use Rattle.fields.specs.Outcomes.{over}
-use Rattle.fields.specs.Quantities.{head_fields, per_segment, Quantities, Segment, quantities_of}
+use Rattle.fields.specs.declared.segments.Segment.{Segment}
+use Rattle.fields.specs.Quantities.{per_segment, Quantities, segment_at, segments_of}
 use Rattle.fields.specs.Limits.{most_friction, most_segments}
-use Rattle.fields.specs.Sizes.{most_fields}
-use Rattle.fields.proofs.Buffers.{length_over, set_behind}
-use Rattle.checks.proofs.Items.{segment_at, left_segments, left_segments_is, next_segment, no_segment}
+use Rattle.fields.proofs.Buffers.{set_behind}
+use Rattle.checks.proofs.Items.{next_segment as next_part, no_segment as no_part}
 use Rattle.member.specs.Constants.{segment_friction, path_friction, jacked, stress_along}
-use Rattle.member.specs.Facts.{SegmentFits}
+use Rattle.member.specs.Facts.{SegmentFrictionFits}
 use Rattle.tolerance.proofs.Path.{friction_of_part}
 use Rattle.elongation.specs.Sheet.{elongation, elongations_from, elongations_of, sum_of}
 use Rattle.elongation.specs.Conditions.{ElongationFits, most_elongation, Stretchable, Stretched}
 use Rattle.elongation.proofs.Along.{jacked_first, one_segment_more, fits_at}
+
+-- ---- the segments that are left
+
+-- so many segments are passed, and the fields `rest` are left, to be cut into parts of `size`
+pub record Left (path : List Segment) (size k : ℕ) (rest : List ℕ) : Type 0 where
+  pub size_is : size ≡ per_segment
+  pub segments : segments_of rest ≡ drop k path
+
+module _ {path : List Segment} {size k : ℕ} {rest : List ℕ} (left : Left path size k rest) where
+  pub next_segment : (part later : List ℕ) → rest ≡ part ++ later → length part ≡ size → drop k path ≡ segment_at part ∷ segments_of later
+  next_segment part later e whole = sym left.segments ∙ rw e (next_part part later (whole ∙ left.size_is))
+
+  -- it is passed
+  pub one_passed : (part later : List ℕ) → rest ≡ part ++ later → length part ≡ size → {size_then k_then : ℕ} → size_then ≡ size
+      → k_then ≡ k + 1 → Left path size_then k_then later
+  one_passed part later e whole same more = record {
+    size_is = same ∙ left.size_is;
+    segments = ap (λ (l : List Segment). drop 1 l) (sym (next_segment part later e whole)) ∙ rw (more, drop-drop 1 k path);
+  }
+
+  pub no_segment : length rest < size → drop k path ≡ []
+  no_segment short = let is = left.size_is in sym left.segments ∙ no_part rest (omega arith)
+
+-- ---- what is written
 
 sum_append : (elongations : List ℕ) (more : ℕ) → sum_of (elongations ++ (more ∷ [])) ≡ sum_of elongations + more
 unfolding sum_of
@@ -45,9 +71,8 @@ no_elongation es stress k e = rw e
 -- up to the segment `k`
 pub record Stretching (q : Quantities) (old sheet : List ℕ) (friction before sum k : ℕ) : Type 0 where
   pub done : List ℕ
-  pub within : k ≤ most_segments
   pub count : length done ≡ k
-  pub same : length sheet ≡ length old
+  pub within : k ≤ length q.path
   pub friction_is : friction ≡ path_friction q.wobble q.curvature (take k q.path)
   pub before_is : before ≡ stress_along q k
   pub small : sum ≤ most_elongation * k
@@ -59,9 +84,8 @@ pub none_stretched : (q : Quantities) (old : List ℕ) → Stretching q old old 
 unfolding path_friction
 none_stretched q old = record {
   done = [];
-  within = omega arith;
   count = refl;
-  same = refl;
+  within = omega arith;
   friction_is = refl;
   before_is = sym (jacked_first q);
   small = omega arith;
@@ -70,17 +94,7 @@ none_stretched q old = record {
   whole = refl;
 }
 
-module _ {n : ℕ} {fields list old : List ℕ} (fit : Stretchable n fields old) (read : list ≡ drop head_fields fields) where
-  abbrev q : Quantities
-  q = quantities_of n 0 fields
-
-  left : (k : ℕ) → drop k q.path ≡ left_segments list n k
-  left k = rw read (left_segments_is (drop head_fields fields) n k)
-
-  -- the segments stand in the fields
-  pub listed : length fields ≡ most_fields → per_segment * n ≤ length list
-  listed whole = let few = fit.below_hours.few in rw (read, length-drop) (omega arith)
-
+module _ {q : Quantities} {old : List ℕ} (fit : Stretchable q old) where
   -- no stress along the path is above the jacking stress
   pub jacked_fits : jacked q < stress_limit
   jacked_fits =
@@ -101,31 +115,52 @@ module _ {n : ℕ} {fields list old : List ℕ} (fit : Stretchable n fields old)
     pub friction_small : friction ≤ most_friction
     friction_small = rw stretching.friction_is (part_most k)
 
-    module _ (more : k < n) where
-      next : drop k q.path ≡ segment_at list k ∷ drop (suc k) q.path
-      next =
-          left k ∙ next_segment list n k more ∙ ap (λ segments. segment_at list k ∷ segments) (rw (add-one k) (sym (left (suc k))))
+    pub sum_small : length q.path ≤ most_segments → sum ≤ most_elongation * most_segments
+    sum_small few = let within = stretching.within in let small = stretching.small in omega arith
 
-      pub here : SegmentFits (segment_at list k)
-      here = fits_at q.path k fit.below_hours.segments_fit next
+    pub all_stretched : length q.path ≤ most_segments → drop k q.path ≡ [] → Stretched q sum sheet old
+    all_stretched few end =
+        let none : elongations_from q.Es (stress_along q) k (drop k q.path) ≡ [] = no_elongation q.Es (stress_along q) k end in
+        let all : stretching.done ≡ elongations_of q =
+        sym (append-nil stretching.done) ∙ ap (λ (l : List ℕ). stretching.done ++ l) (sym none) ∙ stretching.whole in
+        record {
+          sum_is = stretching.sum_is ∙ rw all;
+          sum_most = sum_small few;
+          sheet_is = stretching.sheet_is ∙ rw all;
+        }
 
-      module _ {friction_then : ℕ}
-          (rubbed : friction_then ≡ friction + segment_friction q.wobble q.curvature (segment_at list k)) where
-        friction_is : friction_then ≡ path_friction q.wobble q.curvature (take (suc k) q.path)
-        friction_is =
-            omega (arith, rubbed, stretching.friction_is, one_segment_more q.wobble q.curvature q.path k next)
+    module _ {segment : Segment} {later : List Segment} (next : drop k q.path ≡ segment ∷ later) where
+      more_left : k < length q.path
+      more_left = let left = simp length-drop at (ap length next) in omega arith
 
-        pub friction_fits : FrictionFits (jacked q) friction_then
+      later_is : later ≡ drop (suc k) q.path
+      later_is = ap (λ (l : List Segment). drop 1 l) (sym next) ∙ rw (drop-drop 1 k q.path, add-one)
+
+      pub fits : SegmentFrictionFits q.wobble q.curvature segment
+      fits =
+          let head = fit.below_hours.head in
+          record {
+            wobble_most = head.wobble_most;
+            curvature_most = head.curvature_most;
+            segment_fits = fits_at q.path k fit.below_hours.segments_fit next;
+          }
+
+      module _ {more : ℕ} (rubbed : more ≡ segment_friction q.wobble q.curvature segment) where
+        friction_is : friction + more ≡ path_friction q.wobble q.curvature (take (suc k) q.path)
+        friction_is = omega (arith, rubbed, stretching.friction_is, one_segment_more q.wobble q.curvature q.path k next)
+
+        pub friction_fits : FrictionFits (jacked q) (friction + more)
         friction_fits = record { stress_fits = jacked_fits; friction_most = rw friction_is (part_most (suc k)) }
 
-        module _ {after : ℕ} (is_left : after ≡ stress_left (jacked q) friction_then) where
+        module _ {after : ℕ} (is_left : after ≡ stress_left (jacked q) (friction + more)) where
           after_is : after ≡ stress_along q (suc k)
           after_is = is_left ∙ rw friction_is
 
-          pub elongation_fits : ElongationFits q.Es before after (segment_at list k).length
+          pub elongation_fits : ElongationFits q.Es before after segment.length
           elongation_fits =
               let head = fit.below_hours.head in
               let most = head.es_most in
+              let here = fits.segment_fits in
               record {
                 es_least = head.es_least;
                 es_fits = omega arith;
@@ -134,40 +169,26 @@ module _ {n : ℕ} {fields list old : List ℕ} (fit : Stretchable n fields old)
                 length_most = here.length_most;
               }
 
-          pub one_more : {stretched : ℕ} → stretched ≡ elongation q.Es before after (segment_at list k).length → stretched ≤ most_elongation
-              → Stretching q old (set sheet k stretched) friction_then after (sum + stretched) (k + 1)
-          one_more {stretched} is fits =
+          pub one_more : {stretched : ℕ} → stretched ≡ elongation q.Es before after segment.length → stretched ≤ most_elongation
+              → Stretching q old (set sheet k stretched) (friction + more) after (sum + stretched) (k + 1)
+          one_more {stretched} is small =
               let room = fit.room in
+              let here = more_left in
               let count = stretching.count in
-              let small = stretching.small in
+              let smaller = stretching.small in
               let done = stretching.done in
-              let longer : length (done ++ (stretched ∷ [])) ≡ suc k = length-append done (stretched ∷ []) ∙ (omega arith) in
-              let here_is : stretched ≡ elongation q.Es (stress_along q k) (stress_along q (suc k)) (segment_at list k).length =
+              let here_is : stretched ≡ elongation q.Es (stress_along q k) (stress_along q (suc k)) segment.length =
               is ∙ rw (stretching.before_is, after_is) in
-              let set_is : set sheet k stretched ≡ over (done ++ (stretched ∷ [])) old =
-              ap (λ (l : List ℕ). set l k stretched) stretching.sheet_is ∙ set_behind done old stretched k count (omega arith) in
               record {
                 done = done ++ (stretched ∷ []);
-                within = let few = fit.below_hours.few in omega arith;
-                count = rw add-one longer;
-                same = ap length set_is ∙ length_over (done ++ (stretched ∷ [])) old (omega arith);
+                count = length-append done (stretched ∷ []) ∙ (omega arith);
+                within = omega arith;
                 friction_is = rw add-one friction_is;
                 before_is = rw add-one after_is;
                 small = omega arith;
                 sum_is = rw (sum_append done stretched, stretching.sum_is);
-                sheet_is = set_is;
-                whole = rw (add-one, append_assoc, here_is)
+                sheet_is =
+                    ap (λ (l : List ℕ). set l k stretched) stretching.sheet_is ∙ set_behind done old stretched k count (omega arith);
+                whole = rw (add-one, append_assoc, here_is, ← later_is)
                     (ap (λ (l : List ℕ). done ++ l) (sym (next_elongation q.Es (stress_along q) k next)) ∙ stretching.whole);
               }
-
-    pub all_stretched : n ≤ k → Stretched q sum sheet old
-    all_stretched end =
-        let none : elongations_from q.Es (stress_along q) k (drop k q.path) ≡ [] =
-        no_elongation q.Es (stress_along q) k (left k ∙ no_segment list n k end) in
-        let all : stretching.done ≡ elongations_of q =
-        sym (append-nil stretching.done) ∙ ap (λ (l : List ℕ). stretching.done ++ l) (sym none) ∙ stretching.whole in
-        record {
-          sum_is = stretching.sum_is ∙ rw all;
-          sum_most = let small = stretching.small in let within = stretching.within in omega arith;
-          sheet_is = stretching.sheet_is ∙ rw all;
-        }

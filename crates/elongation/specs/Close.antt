@@ -4,7 +4,8 @@ use Rattle.fraction.specs.Fraction.{Fraction, whole, ◌⊕◌, ◌⊗◌, ◌÷
 use Rattle.ticks.specs.Ticks.{ticks_per_unit}
 use Rattle.exponential.specs.Factor.{powers}
 use Rattle.exponential.specs.Series.{sum_to}
-use Rattle.fields.specs.Quantities.{Quantities, Segment}
+use Rattle.fields.specs.Quantities.{Quantities}
+use Rattle.fields.specs.declared.segments.Segment.{Segment}
 use Rattle.fields.specs.Limits.{range, most_length}
 use Rattle.tolerance.specs.Method.{exponent_along, FactorsAlong, stress_along}
 use Rattle.elongation.specs.Sheet.{Sheet}

@@ -1,13 +1,12 @@
 -- It serves the code alone. What the code of the sheet asks for, and every card that passes its checks has; and what it makes of it.
 use Rattle.std.specs.Prelude.{ℕ, ◌*◌, ◌^◌, ◌≤◌, ◌<◌, ◌≡◌, List, length}
 use Rattle.fields.specs.Outcomes.{OrRefusal, over}
-use Rattle.fields.specs.Quantities.{Quantities, quantities_of}
+use Rattle.fields.specs.Quantities.{Quantities}
 use Rattle.fields.specs.Limits.{range, most_length, most_friction, most_segments}
 use Rattle.formulas.specs.Conditions.{stress_limit, es_limit}
 use Rattle.member.specs.Member.{friction_of}
 use Rattle.member.specs.Checking.{BelowHours}
-use Rattle.elongation.specs.declared.SheetAnswer.{SheetAnswer}
-use Rattle.elongation.specs.Sheet.{Sheet, elongations_of, sum_of, sheet_answer, elongations_written}
+use Rattle.elongation.specs.Sheet.{Sheet, SheetAnswer, elongations_of, sum_of, sheet_answer, elongations_written}
 
 -- of a segment's elongation
 pub record ElongationFits (es before after length : ℕ) : Type 0 where
@@ -21,11 +20,11 @@ pub record ElongationFits (es before after length : ℕ) : Type 0 where
 abbrev pub most_elongation : ℕ
 most_elongation = 2 ^ 19
 
--- of the elongations of so many segments, and of the buffer that takes them
-pub record Stretchable (segments : ℕ) (fields sheet : List ℕ) : Type 0 where
-  pub below_hours : BelowHours segments fields
-  pub friction_most : friction_of (quantities_of segments 0 fields) ≤ most_friction
-  pub room : segments ≤ length sheet
+-- of the elongations of a path's segments, and of the buffer that takes them
+pub record Stretchable (q : Quantities) (sheet : List ℕ) : Type 0 where
+  pub below_hours : BelowHours q
+  pub friction_most : friction_of q ≤ most_friction
+  pub room : length q.path ≤ length sheet
 
 -- the sum of the elongations, which are written
 pub record Stretched (q : Quantities) (sum : ℕ) (sheet sheet_was : List ℕ) : Type 0 where

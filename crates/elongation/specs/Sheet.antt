@@ -1,16 +1,16 @@
 -- The promise rests on it. The elongation sheet: document 02, W7, and document 002, example 1. What it answers, and what it leaves of the
 -- lent buffer.
-use Rattle.std.specs.Prelude.{ℕ, suc, ◌+◌, ◌*◌, ◌/◌, ◌≡◌, not, List, [], ◌∷◌, ◌++◌, leb, length}
+use Rattle.std.specs.Prelude.{ℕ, suc, ◌+◌, ◌*◌, ◌/◌, ◌≡◌, not, List, [], ◌∷◌, ◌++◌, leb, length, Ok, Err}
 use Rattle.ticks.specs.Ticks.{ticks_per_unit}
 use Rattle.fields.specs.declared.refusal.Refusal.{Refusal}
-use Rattle.fields.specs.Outcomes.{OrRefusal, Gives, Refuses, onward, over, Outcome}
-use Rattle.fields.specs.Quantities.{Quantities, Segment, is_pretensioned, quantities_read}
+use Rattle.fields.specs.Outcomes.{OrRefusal, onward, over, Outcome}
+use Rattle.fields.specs.Quantities.{Quantities, is_pretensioned, quantities_read}
+use Rattle.fields.specs.declared.segments.Segment.{Segment}
 use Rattle.fields.specs.Refusals.{acceptance_number, number, place}
 use Rattle.checks.specs.Rows.{CheckRow, row, at, checked_by}
 use Rattle.member.specs.Constants.{stress_along}
 use Rattle.member.specs.Member.{codes_to_hours, duct_row}
 use Rattle.elongation.specs.declared.Total.{Total}
-use Rattle.elongation.specs.declared.SheetAnswer.{SheetAnswer}
 
 -- "the mean of the stresses at its ends before slip, times its length over Es, in ticks of inch, rounded down only once": both stresses and
 -- Es are in ticks of psi here, and a foot has 12 inches
@@ -76,22 +76,25 @@ sheet_read outcome room = onward (quantities_read outcome) (λ q. sheet_result q
 
 -- ---- the answer: "a definition gives this paper's number and values for each case"
 
+abbrev pub SheetAnswer : Type 0
+SheetAnswer = OrRefusal Total
+
 abbrev pub sheet_number : SheetAnswer → ℕ
-sheet_number (SheetAnswer.Accepted total) = acceptance_number
-sheet_number (SheetAnswer.Refused refusal) = number refusal
+sheet_number (Ok total) = acceptance_number
+sheet_number (Err refusal) = number refusal
 
 abbrev pub sheet_values : SheetAnswer → List ℕ
-sheet_values (SheetAnswer.Accepted total) = total.sum ∷ total.measurable ∷ []
-sheet_values (SheetAnswer.Refused refusal) = place refusal ∷ []
+sheet_values (Ok total) = total.sum ∷ total.measurable ∷ []
+sheet_values (Err refusal) = place refusal ∷ []
 
 abbrev pub sheet_answer : OrRefusal Sheet → SheetAnswer
-sheet_answer (Gives sheet) = SheetAnswer.Accepted sheet.total
-sheet_answer (Refuses refusal) = SheetAnswer.Refused refusal
+sheet_answer (Ok sheet) = Ok sheet.total
+sheet_answer (Err refusal) = Err refusal
 
 -- "a refusal leaves the lent buffer unchanged"
 abbrev pub elongations_written : OrRefusal Sheet → List ℕ
-elongations_written (Gives sheet) = sheet.elongations
-elongations_written (Refuses refusal) = []
+elongations_written (Ok sheet) = sheet.elongations
+elongations_written (Err refusal) = []
 
 -- what the entry ensures of its answer, whose number and values decide it, and of the lent buffer, as it is and as it was: "numbers past
 -- those written stay"

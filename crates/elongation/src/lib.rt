@@ -10,7 +10,8 @@ pub mod sheet;
 mod stretching;
 
 use fields::limits::MOST_FIELDS;
-use fields::refusal::{Reading, Refusal};
+use fields::read::Fields;
+use fields::refusal::Refusal;
 
 // The sum of the segments' elongations and its measurable part, in ticks of inch.
 #[derive(Clone, Copy)]
@@ -19,19 +20,11 @@ pub struct Total {
     pub measurable: u64,
 }
 
-#[derive(Clone, Copy)]
-pub enum SheetAnswer {
-    Accepted(Total),
-    Refused(Refusal),
-}
-
 // The sheet of a card, as bytes: the elongation of each segment goes to the front of `sheet`.
-pub fn elongation_sheet(card: &[u8], sheet: &mut [u64]) -> SheetAnswer
+pub fn elongation_sheet(card: &[u8], sheet: &mut [u64]) -> Result<Total, Refusal>
     ensures { SheetPromise (card_outcome card.now) result sheet.new sheet.old }
 {
-    let mut fields = [0u64; MOST_FIELDS];
-    match card::read_card(card, &mut fields) {
-        Reading::Not(refusal) => SheetAnswer::Refused(refusal),
-        Reading::Fields(segments, ages) => sheet::of_fields(&fields, segments, ages, sheet),
-    }
+    let mut numbers = [0u64; MOST_FIELDS];
+    let counts = card::read_card(card, &mut numbers)?;
+    sheet::of_fields(&Fields::new(&numbers, counts), sheet)
 }

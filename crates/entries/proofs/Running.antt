@@ -7,31 +7,33 @@ use native.Mathlib.Numerals.{add-one}
 use native.Mathlib.Omega.{arith}
 use lib.ListN.{length, length-append}
 use borrow.Rule.Slice.PartMut.{mid_of, put_mid}
+use Rattle.std.specs.Prelude.{Ok, Err}
 use Rattle.logarithm.specs.Logarithm.{service_life}
 use Rattle.fields.specs.declared.refusal.Refusal.{Refusal}
-use Rattle.fields.specs.declared.refusal.NumberOrRefusal.TheVariants.{Number, Refused}
-use Rattle.fields.specs.Outcomes.{OrRefusal, Gives, Refuses, onward, over}
-use Rattle.fields.specs.Quantities.{Age, ages_from}
+use Rattle.fields.specs.Outcomes.{OrRefusal, onward, over}
+use Rattle.fields.specs.declared.segments.Age.{Age}
+use Rattle.fields.specs.Quantities.{per_age, age_at, ages_of}
 use Rattle.fields.specs.Limits.{per_row, most_moment}
 use Rattle.fields.proofs.Buffers.{length_over, written_behind}
-use Rattle.checks.proofs.Items.{age_at, left_ages, all_ages, next_age, no_age}
+use Rattle.checks.proofs.Items.{next_age}
 use Rattle.member.specs.declared.Member.{Member}
 use Rattle.member.specs.Facts.{RisingFrom, rises, MomentsWithin, adds}
 use Rattle.formulas.specs.Conditions.{stress_limit}
 use Rattle.stages.specs.declared.ends.End.{End}
 use Rattle.stages.specs.declared.intervals.Row.{Row}
-use Rattle.stages.specs.declared.intervals.Passed.{Passed}
-use Rattle.stages.specs.declared.intervals.Passed.TheVariants.{By, Refused as NotPassed}
 use Rattle.stages.specs.Conditions.{Bounded}
-use Rattle.stages.specs.Given.{row_given}
 use Rattle.stages.specs.Run.{Aged, behind, end_at, transfer_end, row_between, aged_from}
 use Rattle.stages.proofs.Passing.{row_fits, row_refuses}
 use Rattle.entries.specs.Answers.{numbers_of_row, numbers_of_rows}
 use Rattle.entries.specs.RunAges.{RanAges}
 use Rattle.entries.specs.Conditions.{AgesRunnable}
-use Rattle.entries.proofs.BufferRows.{part_room}
 
 -- ---- the ages that are left
+
+-- the fields of the first of them, and of the others
+pub next_left : {fields : List ℕ} (part rest : List ℕ) {size : ℕ} {age : Age} → fields ≡ part ++ rest → length part ≡ size → size ≡ per_age
+    → age ≡ age_at part → ages_of fields ≡ age ∷ ages_of rest
+next_left part rest is whole two age_is = rw (is, age_is) (next_age part rest (whole ∙ two))
 
 -- what is known of the first of them, and of the others
 hour_within : {before : ℕ} {age : Age} {ages : List Age} → RisingFrom before (age ∷ ages) → age.hour ≤ service_life
@@ -56,90 +58,80 @@ rows_append (first ∷ rows) row = rw (rows_append rows row)
 
 -- what later ages give, behind these rows
 abbrev pub behind_rows : List Row → OrRefusal Aged → OrRefusal Aged
-behind_rows rows later = onward later (λ aged. Gives (record { rows = rows ++ aged.rows; last = aged.last }))
+behind_rows rows later = onward later (λ aged. Ok (record { rows = rows ++ aged.rows; last = aged.last }))
 
 behind_one_more : (rows : List Row) (row : Row) (later : OrRefusal Aged)
-    → behind_rows rows (onward later (λ aged. Gives (behind row aged))) ≡ behind_rows (rows ++ (row ∷ [])) later
-behind_one_more rows row (Gives aged) = rw append_assoc
-behind_one_more rows row (Refuses refusal) = refl
+    → behind_rows rows (onward later (λ aged. Ok (behind row aged))) ≡ behind_rows (rows ++ (row ∷ [])) later
+behind_one_more rows row (Ok aged) = rw append_assoc
+behind_one_more rows row (Err refusal) = refl
 
 -- no rows before any
 behind_none : (later : OrRefusal Aged) → later ≡ behind_rows [] later
-behind_none (Gives aged) = refl
-behind_none (Refuses refusal) = refl
+behind_none (Ok aged) = refl
+behind_none (Err refusal) = refl
 
 -- ---- what holds as an age begins
 
--- rows of the ages before it stand in the scratch, and the ages from it on decide the rest
-pub record Progress (m : Member) (fields : List ℕ) (first : ℕ) (old scratch : List ℕ) (stress : ℕ) (start : End) (passed : ℕ)
-    : Type 0 where
-  pub within : passed ≤ m.ages
+-- rows of the ages before it stand in the scratch, and the ages from it on, which are left, decide the rest
+pub record Progress (m : Member) (ages : List Age) (first : ℕ) (old scratch : List ℕ) (stress : ℕ) (start : End) (passed : ℕ)
+    (left : List Age) : Type 0 where
+  pub all : passed + length left ≡ length ages
   pub stress_fits : stress < stress_limit
   pub hour : ℕ
-  pub rise : RisingFrom hour (left_ages fields m.ages passed)
-  pub moments_fit : MomentsWithin start.moments (left_ages fields m.ages passed)
+  pub rise : RisingFrom hour left
+  pub moments_fit : MomentsWithin start.moments left
   pub rows : List Row
-  pub so_far :
-      aged_from m 0 first (transfer_end m) (ages_from m.ages fields)
-      ≡ behind_rows rows (aged_from m passed stress start (left_ages fields m.ages passed))
+  pub so_far : aged_from m 0 first (transfer_end m) ages ≡ behind_rows rows (aged_from m passed stress start left)
   pub rows_length : length (numbers_of_rows rows) ≡ per_row * passed
   pub written : scratch ≡ over (numbers_of_rows rows) old
-  pub room : per_row * m.ages ≤ length old
+  pub room : per_row * length ages ≤ length old
   pub kept : length scratch ≡ length old
 
-pub begins : (m : Member) (fields thresholds : List ℕ) (transfer : End) (stress : ℕ) (old : List ℕ)
-    → AgesRunnable m fields thresholds transfer stress old → Progress m fields stress old old stress transfer 0
+pub begins : (m : Member) (ages : List Age) (transfer : End) (stress : ℕ) (old : List ℕ) → AgesRunnable m ages transfer stress old
+    → Progress m ages stress old old stress transfer 0 ages
 unfolding numbers_of_rows
-begins m fields thresholds transfer stress old asked =
-    let all = all_ages fields m.ages in
-    record {
-      within = omega arith;
-      stress_fits = asked.stress_fits;
-      hour = m.hours.transfer;
-      rise = rw all at asked.ages_fit.rise;
-      moments_fit = rw asked.transfer_is (rw all at asked.ages_fit.moments_fit);
-      rows = [];
-      so_far = rw (asked.transfer_is, ← all) (behind_none _);
-      rows_length = refl;
-      written = refl;
-      room = asked.scratch_room_fits;
-      kept = refl;
-    }
+begins m ages transfer stress old asked = record {
+  all = omega arith;
+  stress_fits = asked.stress_fits;
+  hour = m.hours.transfer;
+  rise = asked.ages_fit.rise;
+  moments_fit = rw asked.transfer_is asked.ages_fit.moments_fit;
+  rows = [];
+  so_far = rw asked.transfer_is (behind_none _);
+  rows_length = refl;
+  written = refl;
+  room = asked.scratch_room_fits;
+  kept = refl;
+}
 
-module _ {m : Member} {fields : List ℕ} {first : ℕ} {old scratch : List ℕ} {stress : ℕ} {start : End} {passed : ℕ}
-    (p : Progress m fields first old scratch stress start passed) where
+module _ {m : Member} {ages : List Age} {first : ℕ} {old scratch : List ℕ} {stress : ℕ} {start : End} {passed : ℕ} {left : List Age}
+    (p : Progress m ages first old scratch stress start passed left) where
   -- what the ages give
   abbrev of_ages : OrRefusal Aged
-  of_ages = aged_from m 0 first (transfer_end m) (ages_from m.ages fields)
+  of_ages = aged_from m 0 first (transfer_end m) ages
 
-  pub ends : m.ages ≤ passed → RanAges of_ages m.ages (Number stress) scratch old
+  pub ends : left ≡ [] → RanAges of_ages (length ages) (Ok stress) scratch old
   unfolding aged_from
-  ends h =
-      let w = p.within in
+  ends none =
+      let count = p.all in
       let r = p.rows_length in
-      let all : length (numbers_of_rows p.rows) ≡ per_row * m.ages = omega arith in
-      rw (rw (no_age fields m.ages passed h) at p.so_far) (record {
+      let passed_all : passed ≡ length ages = omega (arith, ap length none) in
+      rw (rw none at p.so_far) (record {
         result_is = refl;
         leaves = record {
           last_fits = p.stress_fits;
-          rows_length = rw append-nil all;
+          rows_length = rw (append-nil, ← passed_all) r;
           scratch_is = rw append-nil p.written;
         };
         scratch_length = p.kept;
       })
 
-  module _ (more : passed < m.ages) where
-    abbrev age : Age
-    age = age_at fields passed
-
-    abbrev later : List Age
-    later = left_ages fields m.ages (passed + 1)
-
+  module _ (age : Age) (later : List Age) (next : left ≡ age ∷ later) where
     rise_here : RisingFrom p.hour (age ∷ later)
-    rise_here = rw (next_age fields m.ages passed more) at p.rise
+    rise_here = rw next at p.rise
 
     moments_here : MomentsWithin start.moments (age ∷ later)
-    moments_here = rw (next_age fields m.ages passed more) at p.moments_fit
+    moments_here = rw next at p.moments_fit
 
     pub moments_most : start.moments + age.moment ≤ most_moment
     moments_most = moment_within moments_here
@@ -153,15 +145,10 @@ module _ {m : Member} {fields : List ℕ} {first : ℕ} {old scratch : List ℕ}
 
     pub row_within : at + per_row ≤ length scratch
     row_within =
+        let count = p.all in
         let r = p.room in
         let k = p.kept in
-        omega arith
-
-    pub room_for_row : per_row ≤ length (mid_of at (length scratch - at) scratch)
-    room_for_row =
-        let r = p.room in
-        let k = p.kept in
-        part_room scratch at (omega arith)
+        omega (arith, ap length next)
 
     abbrev end_here : End
     end_here = end_at m (start.moments + age.moment) age.hour
@@ -170,62 +157,58 @@ module _ {m : Member} {fields : List ℕ} {first : ℕ} {old scratch : List ℕ}
     abbrev aged_here : End → ℕ → OrRefusal Aged
     aged_here end count =
         onward (row_between m count stress start end) (λ row.
-        onward (aged_from m count row.stress end later) (λ aged. Gives (behind row aged)))
+        onward (aged_from m count row.stress end later) (λ aged. Ok (behind row aged)))
 
     module _ (end : End) (end_is : end ≡ end_here) where
       so_far_with_age : of_ages ≡ behind_rows p.rows (aged_here end (passed + 1))
       unfolding aged_from
       so_far_with_age =
           rw end_is
-          (rw (next_age fields m.ages passed more) at p.so_far
-          ∙ ap (λ (count : ℕ). behind_rows p.rows (aged_here end_here count)) (sym (add-one passed)))
+          (rw next at p.so_far ∙ ap (λ (count : ℕ). behind_rows p.rows (aged_here end_here count)) (sym (add-one passed)))
 
-      module _ (result : Passed) (result_is : row_given result ≡ row_between m (passed + 1) stress start end) where
-        pub stops : (refusal : Refusal) → result ≡ NotPassed refusal → RanAges of_ages m.ages (Refused refusal) scratch old
-        stops refusal e =
-            let refused : row_between m (passed + 1) stress start end ≡ Refuses refusal = sym result_is ∙ ap row_given e in
-            rw (rw refused at so_far_with_age) (record {
-              result_is = refl;
-              leaves = row_refuses m (passed + 1) stress start end refused;
-              scratch_length = p.kept;
-            })
+      pub stops : (refusal : Refusal) → row_between m (passed + 1) stress start end ≡ Err refusal
+          → RanAges of_ages (length ages) (Err refusal) scratch old
+      stops refusal refused =
+          rw (rw refused at so_far_with_age) (record {
+            result_is = refl;
+            leaves = row_refuses m (passed + 1) stress start end refused;
+            scratch_length = p.kept;
+          })
 
-        module _ (row : Row) (told : result ≡ By row) (part : List ℕ)
-            (part_is : part ≡ over (numbers_of_row row) (mid_of at (length scratch - at) scratch)) where
-          passes : row_between m (passed + 1) stress start end ≡ Gives row
-          passes = sym result_is ∙ ap row_given told
+      module _ (row : Row) (passes : row_between m (passed + 1) stress start end ≡ Ok row) where
+        abbrev rows_then : List Row
+        rows_then = p.rows ++ (row ∷ [])
 
-          abbrev rows_then : List Row
-          rows_then = p.rows ++ (row ∷ [])
+        -- the scratch with the row in its place
+        abbrev scratch_then : List ℕ
+        scratch_then = put_mid at (length scratch - at) scratch (over (numbers_of_row row) (mid_of at (length scratch - at) scratch))
 
-          so_far_onward : of_ages ≡ behind_rows rows_then (aged_from m (passed + 1) row.stress end later)
-          so_far_onward =
-              rw passes at so_far_with_age ∙ behind_one_more p.rows row (aged_from m (passed + 1) row.stress end later)
+        so_far_onward : of_ages ≡ behind_rows rows_then (aged_from m (passed + 1) row.stress end later)
+        so_far_onward =
+            rw passes at so_far_with_age ∙ behind_one_more p.rows row (aged_from m (passed + 1) row.stress end later)
 
-          written_then : put_mid at (length scratch - at) scratch part ≡ over (numbers_of_rows rows_then) old
-          written_then =
-              rw rows_append
-              (written_behind (numbers_of_rows p.rows) (numbers_of_row row) old scratch part at (sym p.rows_length) p.written
-              part_is)
+        written_then : scratch_then ≡ over (numbers_of_rows rows_then) old
+        written_then =
+            rw rows_append (written_behind (numbers_of_rows p.rows) (numbers_of_row row) old scratch _ at (sym p.rows_length) p.written refl)
 
-          length_then : length (numbers_of_rows rows_then) ≡ per_row * (passed + 1)
-          length_then = let r = p.rows_length in rw (rows_append, length-append) (omega arith)
+        length_then : length (numbers_of_rows rows_then) ≡ per_row * (passed + 1)
+        length_then = let r = p.rows_length in rw (rows_append, length-append) (omega arith)
 
-          pub turns : Bounded m
-              → Progress m fields first old (put_mid at (length scratch - at) scratch part) row.stress end (passed + 1)
-          turns bounds =
-              let r = p.room in
-              let all = length_then in
-              record {
-                within = omega arith;
-                stress_fits = row_fits m (passed + 1) stress start end bounds passes;
-                hour = age.hour;
-                rise = then_rising rise_here;
-                moments_fit = rw end_is (then_within moments_here);
-                rows = rows_then;
-                so_far = so_far_onward;
-                rows_length = all;
-                written = written_then;
-                room = r;
-                kept = rw written_then (length_over (numbers_of_rows rows_then) old (omega arith));
-              }
+        pub turns : Bounded m → Progress m ages first old scratch_then row.stress end (passed + 1) later
+        turns bounded =
+            let count = p.all in
+            let r = p.room in
+            let all = length_then in
+            record {
+              all = omega (arith, ap length next);
+              stress_fits = row_fits m (passed + 1) stress start end bounded passes;
+              hour = age.hour;
+              rise = then_rising rise_here;
+              moments_fit = rw end_is (then_within moments_here);
+              rows = rows_then;
+              so_far = so_far_onward;
+              rows_length = all;
+              written = written_then;
+              room = r;
+              kept = rw written_then (length_over (numbers_of_rows rows_then) old (omega (arith, ap length next)));
+            }

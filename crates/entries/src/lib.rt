@@ -1,4 +1,5 @@
-// The two entries: a card or a list of doubles, over lent buffers of any length. Their one promise is the record `Promise`.
+// The entries: a card, a list of doubles, or what any reader reads, over lent buffers of any length. Their one promise is the record
+// `Promise`.
 #![tactic(auto)]
 
 ghost use Rattle.card.specs.Card.{card_outcome};
@@ -9,8 +10,9 @@ mod ages;
 mod rows;
 pub mod run;
 
-use fields::limits::MOST_FIELDS;
+use card::Cards;
 use fields::refusal::Refusal;
+use list::Lists;
 use stages::before::BeforeAges;
 
 // What an accepted run replies: the losses before the ages and the stress after them, and the last stress in psi.
@@ -20,28 +22,18 @@ pub struct Reply {
     pub last: f64,
 }
 
-#[derive(Clone, Copy)]
-pub enum Answer {
-    Accepted(Reply),
-    Refused(Refusal),
-}
-
 // The run of a card, as bytes.
-pub fn run_card(card: &[u8], report: &mut [u64], scratch: &mut [u64]) -> Answer
+pub fn run_card(card: &[u8], report: &mut [u64], scratch: &mut [u64]) -> Result<Reply, Refusal>
     ensures { Promise (card_outcome card.now)
         result report.new report.old scratch.new scratch.old }
 {
-    let mut fields = [0u64; MOST_FIELDS];
-    let reading = card::read_card(card, &mut fields);
-    run::run_reading(reading, &fields, report, scratch)
+    run::run::<Cards>(card, report, scratch)
 }
 
 // The run of a list of doubles.
-pub fn run_list(list: &[f64], report: &mut [u64], scratch: &mut [u64]) -> Answer
+pub fn run_list(list: &[f64], report: &mut [u64], scratch: &mut [u64]) -> Result<Reply, Refusal>
     ensures { Promise (list_outcome list.now)
         result report.new report.old scratch.new scratch.old }
 {
-    let mut fields = [0u64; MOST_FIELDS];
-    let reading = list::read_list(list, &mut fields);
-    run::run_reading(reading, &fields, report, scratch)
+    run::run::<Lists>(list, report, scratch)
 }

@@ -1,83 +1,70 @@
-// The run of an accepted member, and of what a reader gives, over lent buffers.
+// The run of an accepted member, of fields, and of what a reader reads, over lent buffers. Report and scratch are two parameters: a
+// contract says of each what it was and what it is, which of two references in a struct reads no plainer.
 ghost use Rattle.std.specs.Prelude.{length};
-ghost use Rattle.fields.specs.Outcomes.{onward};
-ghost use Rattle.fields.specs.Quantities.{ages_from, quantities_of, quantities_in};
-ghost use Rattle.checks.specs.Readable.{Readable, ReadableIf};
+ghost use Rattle.fields.specs.Quantities.{ages_of};
 ghost use Rattle.stages.specs.Run.{member_result, result_of};
 ghost use Rattle.entries.specs.Answers.{Ran};
 ghost use Rattle.entries.specs.Conditions.{Runnable};
+ghost use Rattle.entries.specs.Promise.{Promise};
 
-use crate::{Answer, Reply, ages, rows};
-use fields::layout;
-use fields::layout::{HEAD_FIELDS, PER_SEGMENT};
+use crate::{Reply, ages, rows};
+use fields::layout::PER_AGE;
 use fields::limits::MOST_FIELDS;
-use fields::refusal::{NumberOrRefusal, Reading};
-use member::{Checked, Member};
-use stages::before::Begun;
+use fields::read::{Fields, Reader};
+use fields::refusal::Refusal;
+use stages::bounded::BoundedMember;
 use stages::{before, ends};
 
-// The run of an accepted member, with whose ages the fields begin. Rows are made in the scratch, and go to the report once all ages are
+// The run of an accepted member, whose ages' fields these are. Rows are made in the scratch, and go to the report once all ages are
 // passed.
-fn run_member(m: Member, fields: &[u64], report: &mut [u64], scratch: &mut [u64]) -> Answer
-    requires { Runnable m fields.now report.old scratch.old }
-    ensures { Ran (member_result m (ages_from m.ages fields.now))
+#[tactic(auto, using(fields::proofs::Laws::ages_length))]
+fn run_member(
+    m: BoundedMember,
+    ages: &[u64],
+    report: &mut [u64],
+    scratch: &mut [u64],
+) -> Result<Reply, Refusal>
+    requires { Runnable m.member (ages_of ages.now) report.old scratch.old }
+    ensures { Ran (member_result m.member (ages_of ages.now))
         result report.new report.old scratch.new scratch.old }
 {
-    let thresholds = logarithm::thresholds();
-    let hours = m.hours;
-    let transfer = ends::end_at(m, &thresholds, m.own_weight_moment, hours.transfer);
-    let losses = match before::begin(m, transfer) {
-        Begun::Begins(losses) => losses,
-        Begun::Refused(refusal) => return Answer::Refused(refusal),
-    };
-    match ages::run_ages(m, &thresholds, fields, transfer, losses.stress, scratch) {
-        NumberOrRefusal::Refused(refusal) => Answer::Refused(refusal),
-        NumberOrRefusal::Number(last) => {
-            rows::report_rows(m.ages, scratch, report);
-            Answer::Accepted(Reply {
-                before: losses,
-                last: ticks::double_of_ticks(last as u32),
-            })
-        }
-    }
+    let member = m.member;
+    let hours = member.hours;
+    let transfer = ends::end_at(m, member.own_weight_moment, hours.transfer);
+    let before = before::begin(m, transfer)?;
+    let last = ages::run_ages(m, ages, transfer, before.stress, scratch)?;
+    rows::report_rows(ages.len() / PER_AGE, scratch, report);
+    Ok(Reply {
+        before,
+        last: ticks::double_of_ticks(last as u32),
+    })
 }
 
-// The run of fields that a reader has filled.
+// The run of fields that a reader has read.
 pub fn run_fields(
-    fields: &[u64; MOST_FIELDS],
-    segments: u64,
-    ages: u64,
+    fields: &Fields,
     report: &mut [u64],
     scratch: &mut [u64],
-) -> Answer
-    requires { Readable segments ages fields.now }
-    ensures { Ran (result_of (quantities_of segments ages fields.now)
-        (length report.old) (length scratch.old))
+) -> Result<Reply, Refusal>
+    ensures { Ran (result_of fields.now (length report.old) (length scratch.old))
         result report.new report.old scratch.new scratch.old }
 {
-    match member::check_member(fields, segments, ages, report.len(), scratch.len()) {
-        Checked::Refused(refusal) => Answer::Refused(refusal),
-        Checked::Accepted(m) => {
-            let first_age = HEAD_FIELDS + PER_SEGMENT * (segments as usize);
-            run_member(m, layout::from_element(fields, first_age), report, scratch)
-        }
-    }
+    // Read for the proof alone: the counts bound the path.
+    let _counts = fields.counts;
+    let member = member::check_member(fields, report.len(), scratch.len())?;
+    run_member(BoundedMember { member }, fields.ages(), report, scratch)
 }
 
-// The run of what a reader gives.
-pub(crate) fn run_reading(
-    reading: Reading,
-    fields: &[u64; MOST_FIELDS],
+// The run of what a reader reads.
+pub fn run<R: Reader>(
+    input: &[R::Item],
     report: &mut [u64],
     scratch: &mut [u64],
-) -> Answer
-    requires { ReadableIf reading fields.now }
-    ensures { Ran (onward (quantities_in reading fields.now)
-        (λ q. result_of q (length report.old) (length scratch.old)))
+) -> Result<Reply, Refusal>
+    ensures { Promise (R.outcome input.now)
         result report.new report.old scratch.new scratch.old }
 {
-    match reading {
-        Reading::Not(refusal) => Answer::Refused(refusal),
-        Reading::Fields(segments, ages) => run_fields(fields, segments, ages, report, scratch),
-    }
+    let mut numbers = [0u64; MOST_FIELDS];
+    let counts = R::read(input, &mut numbers)?;
+    run_fields(&Fields::new(&numbers, counts), report, scratch)
 }

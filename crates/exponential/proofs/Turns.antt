@@ -79,22 +79,20 @@ module _ (X : ℕ) (most : X ≤ most_friction) where
 
 -- h before the turn of k
 pub record Going (X h k : ℕ) : Type 0 where
-  pub few : k ≤ powers
   pub low : h ≤ T
   pub fits : Fits X k h
   pub same : turns X k h ≡ factor X
 
 pub begins : (X : ℕ) → X ≤ most_friction → Going X T powers
 unfolding factor
-begins X most = record { few = lit≤ tt; low = lit≤ tt; fits = fits_from X most 12 T (lit≤ tt); same = refl }
+begins X most = record { low = lit≤ tt; fits = fits_from X most 12 T (lit≤ tt); same = refl }
 
 pub goes : (X h k : ℕ) → 0 < k → Going X h k → (taken X k h ≤ T) × Going X (turn X k h) (k - 1)
 unfolding Fits turns
 goes X h zero some going = absurd (omega arith)
 goes X h (suc i) some going =
     let back : suc i - 1 ≡ i = omega arith in
-    let few = going.few in
-    rw back (going.fits.0, record { few = omega arith; low = turn_most X (suc i) h; fits = going.fits.1; same = going.same })
+    rw back (going.fits.0, record { low = turn_most X (suc i) h; fits = going.fits.1; same = going.same })
 
 pub ends : (X h k : ℕ) → k ≤ 0 → Going X h k → h ≡ factor X
 unfolding turns

@@ -14,10 +14,8 @@ pub fn factor(x: u64) -> u64
     ensures { result ≡ factor_of x }
 {
     let mut h = T;
-    let mut k = POWERS;
-    while 0 < k {
+    for k in (1..=POWERS).rev() {
         h = T - h * x / (k * T);
-        k -= 1;
     }
     h
 }

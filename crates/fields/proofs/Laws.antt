@@ -7,8 +7,7 @@ use native.Mathlib.Omega.{arith}
 use lib.Dec.{ltb}
 use lib.ListN.{length, drop}
 use borrow.Author.Tests.{ltb-false}
-use Rattle.ticks.specs.declared.Amount.{Amount}
-use Rattle.ticks.specs.declared.Amount.TheVariants.{Of, Refused}
+use Rattle.std.specs.Prelude.{Option, Some, None}
 use Rattle.fields.specs.Quantities.{per_segment, per_age, segments_from, ages_from}
 use Rattle.fields.specs.Limits.{least_ages, most_ages, ages_out_of_range}
 use Rattle.fields.specs.Outcomes.{numbers_in}
@@ -23,12 +22,12 @@ ages_in_range ages e =
     (ltb-false ages least_ages both.0, ltb-false most_ages ages both.1)
 
 -- behind amounts that are all read stand the numbers of the later ones
-pub numbers_append : (xs ys : List Amount) → length (numbers_in xs) ≡ length xs
+pub numbers_append : (xs ys : List (Option ℕ)) → length (numbers_in xs) ≡ length xs
     → numbers_in (xs ++ ys) ≡ numbers_in xs ++ numbers_in ys
 unfolding numbers_in
 numbers_append [] ys h = refl
-numbers_append (Of n ∷ xs) ys h = ap (λ (l : List ℕ). n ∷ l) (numbers_append xs ys (omega arith))
-numbers_append (Refused ∷ xs) ys h = absurd (omega arith)
+numbers_append (Some n ∷ xs) ys h = ap (λ (l : List ℕ). n ∷ l) (numbers_append xs ys (omega arith))
+numbers_append (None ∷ xs) ys h = absurd (omega arith)
 
 pub segments_length : (segments : ℕ) (fields : List ℕ) → length (segments_from segments fields) ≡ segments
 unfolding segments_from

@@ -1,6 +1,7 @@
-pub mod Accepted
 pub mod Buffers
 pub mod Laws
 pub mod Onward
 pub mod Padding
 pub mod Refusals
+pub mod Parts
+pub mod Reading

@@ -4,28 +4,29 @@ use mathlib.Core.Path.{◌≡◌, refl, ap}
 use Prim.Native.Nat.{ℕ}
 use native.Mathlib.Omega.{arith}
 use Rattle.fields.specs.declared.refusal.Refusal.{Refusal}
-use Rattle.fields.specs.Outcomes.{OrRefusal, Gives, Refuses, onward}
+use Rattle.std.specs.Prelude.{Ok, Err}
+use Rattle.fields.specs.Outcomes.{OrRefusal, onward}
 
 -- what was given, from which the value came
 pub record Through {A B : Type 0} (given : OrRefusal A) (next : A → OrRefusal B) (value : B) : Type 0 where
   pub from : A
-  pub given_is : given ≡ Gives from
-  pub next_is : next from ≡ Gives value
+  pub given_is : given ≡ Ok from
+  pub next_is : next from ≡ Ok value
 
-pub through : {A B : Type 0} (given : OrRefusal A) (next : A → OrRefusal B) {value : B} → onward given next ≡ Gives value
+pub through : {A B : Type 0} (given : OrRefusal A) (next : A → OrRefusal B) {value : B} → onward given next ≡ Ok value
     → Through given next value
-through (Gives from) next e = record { from = from; given_is = refl; next_is = e }
-through (Refuses refusal) next e = let never : ◌≡◌ {A = ℕ} 0 1 = cc in absurd (omega arith)
+through (Ok from) next e = record { from = from; given_is = refl; next_is = e }
+through (Err refusal) next e = let never : ◌≡◌ {A = ℕ} 0 1 = cc in absurd (omega arith)
 
 -- where nothing that follows refuses, what was given did
 pub refused : {A B : Type 0} (given : OrRefusal A) (next : A → B) {refusal : Refusal}
-    → onward given (λ value. Gives (next value)) ≡ Refuses refusal → given ≡ Refuses refusal
-refused (Gives from) next e = let never : ◌≡◌ {A = ℕ} 0 1 = cc in absurd (omega arith)
-refused (Refuses early) next {refusal} e = let same : early ≡ refusal = cc in ap Refuses same
+    → onward given (λ value. Ok (next value)) ≡ Err refusal → given ≡ Err refusal
+refused (Ok from) next e = let never : ◌≡◌ {A = ℕ} 0 1 = cc in absurd (omega arith)
+refused (Err early) next {refusal} e = let same : early ≡ refusal = cc in ap Err same
 
 -- what holds of each refusal that can arise holds of the one that did
 pub of_refused : {A B : Type 0} (P : Refusal → Type 0) (given : OrRefusal A) (next : A → OrRefusal B) {refusal : Refusal}
-    → ((early : Refusal) → given ≡ Refuses early → P early) → ((from : A) (late : Refusal) → next from ≡ Refuses late → P late)
-    → onward given next ≡ Refuses refusal → P refusal
-of_refused P (Gives from) next {refusal} before behind e = behind from refusal e
-of_refused P (Refuses early) next {refusal} before behind e = let same : early ≡ refusal = cc in before refusal (ap Refuses same)
+    → ((early : Refusal) → given ≡ Err early → P early) → ((from : A) (late : Refusal) → next from ≡ Err late → P late)
+    → onward given next ≡ Err refusal → P refusal
+of_refused P (Ok from) next {refusal} before behind e = behind from refusal e
+of_refused P (Err early) next {refusal} before behind e = let same : early ≡ refusal = cc in before refusal (ap Err same)

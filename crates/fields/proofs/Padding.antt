@@ -5,7 +5,8 @@ use mathlib.Core.List.{List, [], ◌∷◌, ◌++◌}
 use Prim.Native.Nat.{ℕ, zero, suc, ◌+◌, ◌*◌}
 use lib.ListN.{length, get_or, drop, replicate}
 use lib.Seq.{get_or-drop}
-use Rattle.fields.specs.Quantities.{head_fields, per_segment, per_age, segments_from, ages_from, quantities_of}
+use Rattle.fields.specs.Quantities.{head_fields, per_segment, per_age, segments_from, ages_from, quantities_with}
+use Rattle.fields.specs.declared.read.Counts.{Counts}
 use Rattle.fields.specs.Outcomes.{over}
 
 -- two lists of fields that read the same everywhere
@@ -33,10 +34,10 @@ ages_same zero fields others same = refl
 ages_same (suc count) fields others same =
     rw (same 0, same 1, ages_same count (drop per_age fields) (drop per_age others) (drop_same per_age fields others same))
 
-pub same_quantities : (segments ages : ℕ) (fields others : List ℕ) → Same fields others
-    → quantities_of segments ages fields ≡ quantities_of segments ages others
-same_quantities segments ages fields others same =
-    let first_age = head_fields + per_segment * segments in
+pub same_quantities : (counts : Counts) (fields others : List ℕ) → Same fields others
+    → quantities_with counts fields ≡ quantities_with counts others
+same_quantities counts fields others same =
+    let first_age = head_fields + per_segment * counts.segments in
     rw (
       same 0,
       same 1,
@@ -60,8 +61,8 @@ same_quantities segments ages fields others same =
       same 19,
       same 20,
       same 21,
-      segments_same segments (drop head_fields fields) (drop head_fields others) (drop_same head_fields fields others same),
-      ages_same ages (drop first_age fields) (drop first_age others) (drop_same first_age fields others same),
+      segments_same counts.segments (drop head_fields fields) (drop head_fields others) (drop_same head_fields fields others same),
+      ages_same counts.ages (drop first_age fields) (drop first_age others) (drop_same first_age fields others same),
     )
 
 -- ---- zeros behind the fields

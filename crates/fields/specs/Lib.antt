@@ -3,4 +3,4 @@ pub mod Quantities
 pub mod Refusals
 pub mod Limits
 pub mod Sizes
-pub mod Given
+pub mod Readable

@@ -1,7 +1,9 @@
 -- The promise rests on it. Document 01, "The card": how its fields are set and numbered, and the quantities that they are, by name.
-use Rattle.std.specs.Prelude.{ℕ, suc, ◌+◌, ◌*◌, zero, ◌-◌, Bool, List, [], ◌∷◌, eqb, get_or, drop}
-use Rattle.fields.specs.declared.refusal.Reading.{Reading}
-use Rattle.fields.specs.Outcomes.{Outcome, OrRefusal, Gives, Refuses}
+use Rattle.std.specs.Prelude.{ℕ, suc, ◌+◌, ◌*◌, zero, ◌-◌, ◌/◌, Bool, List, [], ◌∷◌, eqb, length, get_or, drop, Ok, Err}
+use Rattle.fields.specs.declared.read.Counts.{Counts}
+use Rattle.fields.specs.declared.segments.Segment.{Segment}
+use Rattle.fields.specs.declared.segments.Age.{Age}
+use Rattle.fields.specs.Outcomes.{Outcome, OrRefusal}
 
 -- "14-column fields"
 abbrev pub columns : ℕ
@@ -34,17 +36,6 @@ first_age_field segments = first_segment_field + per_segment * segments
 -- how many fields a card or a list has
 abbrev pub fields_in : ℕ → ℕ → ℕ
 fields_in segments ages = head_fields + per_segment * segments + per_age * ages
-
--- "s lines: segment kind, length, rise"; a bend has its angle in the third field
-pub record Segment : Type 0 where
-  pub kind : ℕ
-  pub length : ℕ
-  pub rise : ℕ
-
--- "n lines: age in hours, moment added then"
-pub record Age : Type 0 where
-  pub hour : ℕ
-  pub moment : ℕ
 
 -- one thing for each field of "Line 1" to "Line 4" but the counts, with a path and ages
 pub record OfFields (A : Type 0) : Type 0 where
@@ -128,14 +119,28 @@ bend = 3
 
 -- ---- from the numbered fields, of which field k is element k - 1
 
+-- "s lines: segment kind, length, rise"; a bend has its angle in the third field
+abbrev pub segment_at : List ℕ → Segment
+segment_at fields = record { kind = get_or fields 0 0; length = get_or fields 1 0; rise = get_or fields 2 0 }
+
+-- "n lines: age in hours, moment added then"
+abbrev pub age_at : List ℕ → Age
+age_at fields = record { hour = get_or fields 0 0; moment = get_or fields 1 0 }
+
 unfoldable pub segments_from : ℕ → List ℕ → List Segment
 segments_from zero fields = []
-segments_from (suc count) fields =
-    record { kind = get_or fields 0 0; length = get_or fields 1 0; rise = get_or fields 2 0 } ∷ segments_from count (drop per_segment fields)
+segments_from (suc count) fields = segment_at fields ∷ segments_from count (drop per_segment fields)
 
 unfoldable pub ages_from : ℕ → List ℕ → List Age
 ages_from zero fields = []
-ages_from (suc count) fields = record { hour = get_or fields 0 0; moment = get_or fields 1 0 } ∷ ages_from count (drop per_age fields)
+ages_from (suc count) fields = age_at fields ∷ ages_from count (drop per_age fields)
+
+-- the segments, and the ages, that some fields are, all of them
+abbrev pub segments_of : List ℕ → List Segment
+segments_of fields = segments_from (length fields / per_segment) fields
+
+abbrev pub ages_of : List ℕ → List Age
+ages_of fields = ages_from (length fields / per_age) fields
 
 -- with so many segments and ages
 abbrev pub quantities_of : ℕ → ℕ → List ℕ → Quantities
@@ -143,10 +148,14 @@ quantities_of segments ages fields =
     quantities_by (λ number. get_or fields (number - 1) 0) (segments_from segments (drop head_fields fields))
     (ages_from ages (drop (head_fields + per_segment * segments) fields))
 
+-- with the counts that a reader gives
+abbrev pub quantities_with : Counts → List ℕ → Quantities
+quantities_with counts fields = quantities_of counts.segments counts.ages fields
+
 -- what a reader's numbers are, or its refusal
-abbrev pub quantities_in : Reading → List ℕ → OrRefusal Quantities
-quantities_in (Reading.Fields segments ages) fields = Gives (quantities_of segments ages fields)
-quantities_in (Reading.Not refusal) fields = Refuses refusal
+abbrev pub quantities_in : OrRefusal Counts → List ℕ → OrRefusal Quantities
+quantities_in (Ok counts) fields = Ok (quantities_with counts fields)
+quantities_in (Err refusal) fields = Err refusal
 
 abbrev pub quantities_read : Outcome → OrRefusal Quantities
 quantities_read outcome = quantities_in outcome.reading outcome.numbers

@@ -1,6 +1,4 @@
 // How the fields of a card or a list are numbered. Field k of document 01 is element k - 1.
-ghost use Rattle.std.specs.Prelude.{◌≡◌, ◌≤◌, length, drop};
-
 use crate::places;
 
 // Fields by their numbers.
@@ -19,11 +17,3 @@ pub const PER_AGE: usize = 2;
 
 // The number of the first segment's first field.
 pub const FIRST_SEGMENT: u64 = (HEAD_FIELDS + 1) as u64;
-
-// The numbers from an element on.
-pub fn from_element(numbers: &[u64], element: usize) -> &[u64]
-    requires { element ≤ length numbers.now }
-    ensures { result.now ≡ drop element numbers.now }
-{
-    &numbers[element..]
-}

@@ -5,4 +5,6 @@
 pub mod layout;
 pub mod limits;
 pub mod places;
+pub mod read;
 pub mod refusal;
+pub mod segments;

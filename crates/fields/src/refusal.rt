@@ -1,4 +1,4 @@
-// Refusals, and what reading a card or a list gives.
+// Refusals: their numbers and places.
 ghost use Rattle.std.specs.Prelude.{◌≡◌};
 ghost use Rattle.fields.specs.Refusals.{number, place};
 
@@ -33,63 +33,44 @@ pub enum Refusal {
     Overstress(u64),
 }
 
-// The counts of segments and of ages, their fields read; or a refusal.
-#[derive(Clone, Copy)]
-pub enum Reading {
-    Fields(u64, u64),
-    Not(Refusal),
-}
-
-// That some rows of checks hold, or the refusal of the first that does not.
-#[derive(Clone, Copy)]
-pub enum Rows {
-    Hold,
-    Refused(Refusal),
-}
-
-// A number, or the refusal that stands in its place.
-#[derive(Clone, Copy)]
-pub enum NumberOrRefusal {
-    Number(u64),
-    Refused(Refusal),
-}
-
-pub fn number_of(refusal: Refusal) -> u64
-    ensures { result ≡ number refusal }
-{
-    match refusal {
-        Refusal::Shape(_) => 8,
-        Refusal::Doubles(_) => 9,
-        Refusal::Codes(_) => 1,
-        Refusal::Ranges(_) => 2,
-        Refusal::Hours(_) => 3,
-        Refusal::Pretensioned => 13,
-        Refusal::Duct(_) => 4,
-        Refusal::Buffers(_) => 10,
-        Refusal::Section => 5,
-        Refusal::Creep => 6,
-        Refusal::AnchorSet => 12,
-        Refusal::Stress(_) => 7,
-        Refusal::Overstress(_) => 11,
+impl Refusal {
+    pub fn number(self) -> u64
+        ensures { result ≡ number self }
+    {
+        match self {
+            Refusal::Shape(_) => 8,
+            Refusal::Doubles(_) => 9,
+            Refusal::Codes(_) => 1,
+            Refusal::Ranges(_) => 2,
+            Refusal::Hours(_) => 3,
+            Refusal::Pretensioned => 13,
+            Refusal::Duct(_) => 4,
+            Refusal::Buffers(_) => 10,
+            Refusal::Section => 5,
+            Refusal::Creep => 6,
+            Refusal::AnchorSet => 12,
+            Refusal::Stress(_) => 7,
+            Refusal::Overstress(_) => 11,
+        }
     }
-}
 
-pub fn place_of(refusal: Refusal) -> u64
-    ensures { result ≡ place refusal }
-{
-    match refusal {
-        Refusal::Shape(line) => line,
-        Refusal::Doubles(field) => field,
-        Refusal::Codes(field) => field,
-        Refusal::Ranges(field) => field,
-        Refusal::Hours(field) => field,
-        Refusal::Pretensioned => PRETENSIONED_PLACE,
-        Refusal::Duct(check) => check,
-        Refusal::Buffers(buffer) => buffer,
-        Refusal::Section => AREA_FIELD,
-        Refusal::Creep => STEEL_AREA_FIELD,
-        Refusal::AnchorSet => TENDON_LENGTH_FIELD,
-        Refusal::Stress(age) => age,
-        Refusal::Overstress(age) => age,
+    pub fn place(self) -> u64
+        ensures { result ≡ place self }
+    {
+        match self {
+            Refusal::Shape(line) => line,
+            Refusal::Doubles(field) => field,
+            Refusal::Codes(field) => field,
+            Refusal::Ranges(field) => field,
+            Refusal::Hours(field) => field,
+            Refusal::Pretensioned => PRETENSIONED_PLACE,
+            Refusal::Duct(check) => check,
+            Refusal::Buffers(buffer) => buffer,
+            Refusal::Section => AREA_FIELD,
+            Refusal::Creep => STEEL_AREA_FIELD,
+            Refusal::AnchorSet => TENDON_LENGTH_FIELD,
+            Refusal::Stress(age) => age,
+            Refusal::Overstress(age) => age,
+        }
     }
 }

@@ -23,10 +23,6 @@ pub yield_least : (steel : Steel) (ultimate_strength : ℕ) → least_strength �
 yield_least StressRelieved ultimate_strength h = omega arith
 yield_least LowRelaxation ultimate_strength h = omega arith
 
-pub divisor_some : (steel : Steel) → 1 ≤ relaxation_divisor steel
-divisor_some StressRelieved = omega arith
-divisor_some LowRelaxation = omega arith
-
 -- a stress in yields, in parts of T
 pub relaxation_factor_most : (stress y : ℕ) → stress < stress_limit → 2 ^ 26 ≤ y → relaxation_factor stress y ≤ 2 ^ 26
 relaxation_factor_most stress y s h =

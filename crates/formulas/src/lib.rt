@@ -1,7 +1,7 @@
 // The losses of each step and the gain, in ticks. Every division rounds down. What a function requires is that its products fit.
 #![tactic(auto)]
 
-ghost use Rattle.std.specs.Prelude.{◌≡◌, ◌-◌, ◌<◌};
+ghost use Rattle.std.specs.Prelude.{◌≡◌, ◌<◌};
 ghost use Rattle.formulas.specs.Steps.{stress_left, friction_loss, slip_loss, deflector_ticks, yield, relaxation_divisor, relaxation_factor};
 ghost use Rattle.formulas.specs.Steps.{relaxation_loss, moment_stress, concrete_stress, shortening_loss, creep_loss, shrinkage_loss};
 ghost use Rattle.formulas.specs.Steps.{moment_gain};
@@ -12,6 +12,7 @@ ghost use Rattle.formulas.specs.Conditions.{GainFits};
 pub mod anchor;
 
 use coefficient::codes::Steel;
+use fields::limits::HUNDREDTHS;
 use ticks::{T, TICKS_PER_UNIT};
 
 // 2^32: what κ is in parts of.
@@ -24,8 +25,6 @@ const STRESS_RELIEVED_YIELD: u64 = 85;
 
 const LOW_RELAXATION_YIELD: u64 = 90;
 
-const HUNDREDTHS: u64 = 100;
-
 // D
 const STRESS_RELIEVED_DIVISOR: u64 = 2_560;
 
@@ -36,13 +35,7 @@ const FREE_OF_RELAXATION: u64 = 55 * T / HUNDREDTHS;
 
 const LEAST_FACTOR: u64 = 5 * T / HUNDREDTHS;
 
-// later - earlier, and 0 where that is negative.
-pub fn difference(later: u64, earlier: u64) -> u64
-    ensures { result ≡ later - earlier }
-{
-    if earlier < later { later - earlier } else { 0 }
-}
-
+#[tactic(auto, using(exponential::proofs::Turns::factor_most))]
 pub fn stress_left(stress: u64, friction: u64) -> u64
     requires { FrictionFits stress friction }
     ensures { result ≡ stress_left stress friction }
@@ -50,6 +43,7 @@ pub fn stress_left(stress: u64, friction: u64) -> u64
     stress * exponential::factor(friction) / T
 }
 
+#[tactic(auto, using(crate::proofs::Laws::stress_left_most))]
 pub fn friction_loss(stress: u64, friction: u64) -> u64
     requires { FrictionFits stress friction }
     ensures { result ≡ friction_loss stress friction }
@@ -75,12 +69,11 @@ fn yield_of(steel: Steel, ultimate_strength: u64) -> u64
     requires { ultimate_strength < strength_limit }
     ensures { result ≡ yield steel ultimate_strength }
 {
-    match steel {
-        Steel::StressRelieved => STRESS_RELIEVED_YIELD * ultimate_strength * TICKS_PER_UNIT
-            / HUNDREDTHS,
-        Steel::LowRelaxation => LOW_RELAXATION_YIELD * ultimate_strength * TICKS_PER_UNIT
-            / HUNDREDTHS,
-    }
+    let hundredths = match steel {
+        Steel::StressRelieved => STRESS_RELIEVED_YIELD,
+        Steel::LowRelaxation => LOW_RELAXATION_YIELD,
+    };
+    hundredths * ultimate_strength * TICKS_PER_UNIT / HUNDREDTHS
 }
 
 fn relaxation_divisor(steel: Steel) -> u64
@@ -96,12 +89,9 @@ fn relaxation_factor(stress: u64, y: u64) -> u64
     requires { FactorFits stress y }
     ensures { result ≡ relaxation_factor stress y }
 {
-    let above = difference(stress * T / y, FREE_OF_RELAXATION);
-    if LEAST_FACTOR < above {
-        above
-    } else {
-        LEAST_FACTOR
-    }
+    (stress * T / y)
+        .saturating_sub(FREE_OF_RELAXATION)
+        .max(LEAST_FACTOR)
 }
 
 pub fn relaxation_loss(steel: Steel, ultimate_strength: u64, stress: u64, logarithms: u64) -> u64
@@ -124,7 +114,7 @@ pub fn concrete_stress(stress: u64, kappa: u64, g: u64) -> u64
     requires { ConcreteFits stress kappa }
     ensures { result ≡ concrete_stress stress kappa g }
 {
-    difference(stress * kappa / KAPPA_UNIT, g)
+    (stress * kappa / KAPPA_UNIT).saturating_sub(g)
 }
 
 pub fn shortening_loss(es: u64, eci: u64, kappa: u64, c: u64) -> u64

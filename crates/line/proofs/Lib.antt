@@ -1,6 +1,6 @@
 pub mod Laws
 pub mod LineByLine
 pub mod Behind
-pub mod Blank
-mod Amounts
+pub mod BlankField
+pub mod Amounts
 mod Fields

@@ -1,37 +1,74 @@
 // Lines one after the other.
-ghost use Rattle.std.specs.Prelude.{◌≡◌};
+ghost use Rattle.std.specs.Prelude.{◌≡◌, ◌<◌, ◌^◌, ◌∷◌, [], Ok};
+ghost use Rattle.line.specs.Lines.{line_length, is_shaped, ended};
 ghost use Rattle.fields.specs.Outcomes.{over};
-ghost use Rattle.line.specs.Lines.{read_lines};
-ghost use Rattle.line.specs.Conditions.{LinesFit};
+ghost use Rattle.line.specs.Conditions.{LinesFit, line_from, lines_from, GoesOn};
 
-use crate::{COLUMNS, MayBeBlank};
+use crate::{Blank, COLUMNS, LINE_FEED, read_field};
 
-// Lines of `counts` fields each, from the front of `part` on; the first is line `line` and begins with field `field`. The first
-// wrong line, or 0; the numbers before the first wrong field are written at the front of `fields`.
-pub fn read_lines(
-    part: &[u8],
-    blank: MayBeBlank,
-    counts: &[usize],
-    line: usize,
-    field: usize,
-    fields: &mut [u64],
-) -> usize
-    requires { LinesFit counts.now line field fields.old }
-    ensures value { result ≡ (read_lines blank counts.now line field part.now).wrong }
-    ensures fields_after { fields.new
-        ≡ over (read_lines blank counts.now line field part.now).numbers fields.old }
+// What is not read yet: the bytes from a line on, the numbers of that line and of its first field, and the field that may be blank.
+#[derive(Clone, Copy)]
+pub struct Unread<'a> {
+    pub bytes: &'a [u8],
+    pub line: u64,
+    pub field: usize,
+    pub blank: Option<Blank>,
+}
+
+// Whether a line of `count` fields is all there and ends where it should.
+fn is_shaped(bytes: &[u8], count: usize) -> bool
+    requires { line_length count < 2 ^ 64 }
+    ensures { result ≡ is_shaped count bytes.now }
 {
-    let mut done = 0usize;
-    let mut at = 0usize;
-    let mut read = 0usize;
-    while done < counts.len() {
-        let count = counts[done];
-        if !crate::read_line(&part[at..], blank, count, field + read, &mut fields[read..]) {
-            return line + done;
+    bytes.get(COLUMNS * count) == Some(&LINE_FEED)
+}
+
+impl<'a> Unread<'a> {
+    // The next line, of `count` fields. The line's number, if it is wrong or missing; the numbers before its first wrong field are
+    // written at the front of `fields`.
+    pub fn read_line(&mut self, count: usize, fields: &mut [u64]) -> Result<(), u64>
+        requires { LinesFit (count ∷ []) self.old fields.old }
+        ensures value { GoesOn (line_from self.old count) (count ∷ []) self.old self.new result }
+        ensures fields_after { fields.new ≡ over (line_from self.old count).numbers fields.old }
+    {
+        if !is_shaped(self.bytes, count) {
+            return Err(self.line);
         }
-        at += COLUMNS * count + 1;
-        read += count;
-        done += 1;
+        // Document 01 names this form: the slice part beginning at a field's column is handed to the number reader.
+        let mut part = self.bytes;
+        for done in 0..count {
+            fields[done] = read_field(part, self.blank, self.field + done).ok_or(self.line)?;
+            part = &part[COLUMNS..];
+        }
+        self.bytes = &part[1..];
+        self.line += 1;
+        self.field += count;
+        Ok(())
     }
-    0
+
+    // The next lines, of `counts` fields each. The first wrong or missing line, if there is one; the numbers before the first wrong
+    // field are written at the front of `fields`.
+    pub fn read_lines(&mut self, counts: &[usize], fields: &mut [u64]) -> Result<(), u64>
+        requires { LinesFit counts.now self.old fields.old }
+        ensures value { GoesOn (lines_from self.old counts.now) counts.now self.old self.new result }
+        ensures fields_after { fields.new ≡ over (lines_from self.old counts.now).numbers fields.old }
+    {
+        let mut read = 0usize;
+        for &count in counts {
+            self.read_line(count, &mut fields[read..])?;
+            read += count;
+        }
+        Ok(())
+    }
+
+    // The line behind the last due one, if there are bytes left.
+    pub fn end(&self) -> Result<(), u64>
+        ensures { result ≡ ended self.now.line (Ok self.now.bytes.now) }
+    {
+        if self.bytes.is_empty() {
+            Ok(())
+        } else {
+            Err(self.line)
+        }
+    }
 }

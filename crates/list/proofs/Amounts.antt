@@ -1,38 +1,20 @@
--- The amounts of a list's fields: how many there are, each by its place, and that those of a list are those of its head, its segments
--- and its ages, one after the other. Each is by induction along the list; where a field stands decides how it is kept. Assumes
--- nothing.
-use mathlib.Core.Path.{◌≡◌, refl, sym, ap, ◌∙◌}
+-- The amounts of a list's fields: those of a list are those of its head, its segments and its ages, one after the other, and each by its
+-- place. By induction along the list; where a field stands decides how it is kept. Assumes nothing.
+use mathlib.Core.Path.{◌≡◌, refl, ap, ◌∙◌}
 use mathlib.Core.Bool.{Bool}
 use mathlib.Core.List.{List, [], ◌∷◌, ◌++◌}
-use Prim.Native.Nat.{ℕ, zero, suc, ◌+◌, ◌-◌, ◌*◌, ◌<◌}
-use native.Mathlib.Nat.{le_of_suc-le-suc, not-suc-le-zero}
+use Prim.Native.Nat.{ℕ, suc, ◌+◌, ◌-◌, ◌*◌, ◌<◌}
 use native.Mathlib.Omega.{arith}
 use lib.Ieee.{Float, nan}
 use lib.ListN.{length, get_or, length-append}
 use borrow.Author.Tests.{lt-ltb, le-ltb, le-leb, lt-leb}
-use Rattle.ticks.specs.declared.Amount.{Amount}
-use Rattle.ticks.specs.declared.Amount.TheVariants.{Refused}
+use Rattle.std.specs.Prelude.{Option, None}
 use Rattle.fields.specs.Quantities.{head_fields, per_segment, first_segment_field, first_age_field}
 use Rattle.list.specs.Lists.{in_ticks, head_in_ticks, segment_in_ticks, age_in_ticks, amount_in, amounts_by, amounts_of}
+use Rattle.list.specs.Laws.{part_at}
 use Rattle.list.specs.Measures.{head_amounts, segments_amounts, ages_amounts}
 
 -- ---- of a part
-
-pub part_length : (ticks : ℕ → Bool) (field : ℕ) (xs : List Float) → length (amounts_by ticks field xs) ≡ length xs
-unfolding amounts_by
-part_length ticks field [] = refl
-part_length ticks field (x ∷ xs) = ap suc (part_length ticks (suc field) xs)
-
-pub part_at : (ticks : ℕ → Bool) (field : ℕ) (xs : List Float) (k : ℕ) → k < length xs
-    → get_or (amounts_by ticks field xs) k Refused ≡ amount_in (ticks (field + k)) (get_or xs k nan)
-unfolding amounts_by
-part_at ticks field [] k h = absurd (not-suc-le-zero h)
-part_at ticks field (x ∷ xs) zero h =
-    let e : field + 0 ≡ field = omega arith in
-    ap (λ (f : ℕ). amount_in (ticks f) x) (sym e)
-part_at ticks field (x ∷ xs) (suc k) h =
-    let e : suc field + k ≡ field + suc k = omega arith in
-    part_at ticks (suc field) xs k (le_of_suc-le-suc h) ∙ ap (λ (f : ℕ). amount_in (ticks f) (get_or xs k nan)) e
 
 pub part_append : (ticks : ℕ → Bool) (field : ℕ) (xs ys : List Float)
     → amounts_by ticks field (xs ++ ys) ≡ amounts_by ticks field xs ++ amounts_by ticks (field + length xs) ys
@@ -42,7 +24,7 @@ part_append ticks field [] ys =
     ap (λ (f : ℕ). amounts_by ticks f ys) e
 part_append ticks field (x ∷ xs) ys =
     let e : suc field + length xs ≡ field + suc (length xs) = omega arith in
-    ap (λ (l : List Amount). amount_in (ticks field) x ∷ l)
+    ap (λ (l : List (Option ℕ)). amount_in (ticks field) x ∷ l)
     (part_append ticks (suc field) xs ys
     ∙ ap (λ (f : ℕ). amounts_by ticks (suc field) xs ++ amounts_by ticks f ys) e)
 
@@ -56,7 +38,7 @@ alike ticks kept field past (x ∷ xs) same =
     let f : past + 0 ≡ past = omega arith in
     let first : ticks field ≡ kept past = rw (e, f) at (same 0 (omega arith)) in
     ap (λ (b : Bool). amount_in b x ∷ amounts_by ticks (suc field) xs) first
-    ∙ ap (λ (l : List Amount). amount_in (kept past) x ∷ l) (alike ticks kept (suc field) (suc past) xs later)
+    ∙ ap (λ (l : List (Option ℕ)). amount_in (kept past) x ∷ l) (alike ticks kept (suc field) (suc past) xs later)
   where
     later : (k : ℕ) → k < length xs → ticks (suc field + k) ≡ kept (suc past + k)
     later k h =
@@ -98,3 +80,13 @@ module _ (segments : ℕ) where
           alike (in_ticks segments) segment_in_ticks first_segment_field 0 part (λ k h. in_segments k (omega arith)),
           alike (in_ticks segments) age_in_ticks (first_age_field segments) 0 ages (λ k h. in_ages k),
         )
+
+-- ---- one by one
+
+pub head_at : (head : List Float) (at : ℕ) → at < length head
+    → get_or (head_amounts head) at None ≡ amount_in (head_in_ticks (at + 1)) (get_or head at nan)
+head_at head at h = let e : 1 + at ≡ at + 1 = omega arith in rw (← e) (part_at head_in_ticks 1 head at h)
+
+pub age_at : (ages : List Float) (at : ℕ) → at < length ages
+    → get_or (ages_amounts ages) at None ≡ amount_in (age_in_ticks at) (get_or ages at nan)
+age_at ages at h = let e : 0 + at ≡ at = omega arith in rw e at (part_at age_in_ticks 0 ages at h)

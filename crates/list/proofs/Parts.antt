@@ -8,12 +8,13 @@ use lib.Ieee.{Float}
 use lib.ListN.{length, take, drop, length-append, length-drop, take-append-drop}
 use lib.Seq.{take-add, take_all, length-take-le}
 use borrow.Rule.Slice.PartMut.{mid_of, put_mid}
-use Rattle.ticks.specs.declared.Amount.{Amount}
+use Rattle.std.specs.Prelude.{Option}
 use Rattle.fields.specs.Quantities.{head_fields, per_segment}
-use Rattle.list.specs.Lists.{in_ticks, head_in_ticks, segment_in_ticks, amounts_of}
+use Rattle.list.specs.Lists.{head_in_ticks, segment_in_ticks, amounts_of}
 use Rattle.list.specs.Measures.{Written, head_amounts, segments_amounts, ages_amounts}
-use Rattle.list.proofs.Amounts.{part_length, by_parts}
-use Rattle.list.proofs.Numbers.{count_within, cut, joined}
+use Rattle.list.specs.Laws.{part_length}
+use Rattle.list.proofs.Amounts.{by_parts}
+use Rattle.list.proofs.Numbers.{cut, joined}
 
 -- where the ages begin, and the doubles of the head, of the segments and of the ages
 abbrev pub first_age : ℕ → ℕ
@@ -29,7 +30,7 @@ abbrev pub ages_in : ℕ → List Float → List Float
 ages_in segments list = take (length list - first_age segments) (drop (first_age segments) list)
 
 -- the amounts before those of the ages
-abbrev pub before_ages : ℕ → List Float → List Amount
+abbrev pub before_ages : ℕ → List Float → List (Option ℕ)
 before_ages segments list = head_amounts (head_in list) ++ segments_amounts (segments_in segments list)
 
 module _ (list : List Float) (segments : ℕ) (enough : first_age segments ≤ length list) where
@@ -56,7 +57,7 @@ module _ (list : List Float) (segments : ℕ) (enough : first_age segments ≤ l
       sym (by_parts segments (head_in list) (segments_in segments list) (ages_in segments list) head_length segments_length)
       ∙ ap (amounts_of segments 1) made_up
 
-  head_count : length (head_amounts (head_in list)) ≡ head_fields
+  pub head_count : length (head_amounts (head_in list)) ≡ head_fields
   head_count = part_length head_in_ticks 1 (head_in list) ∙ head_length
 
   before_ages_count : length (before_ages segments list) ≡ first_age segments
@@ -87,9 +88,6 @@ module _ (list : List Float) (segments : ℕ) (enough : first_age segments ≤ l
     segments_written w all v =
         joined (head_amounts (head_in list)) old w (segments_amounts (segments_in segments list)) head_fields head_count all v
 
-    pub segment_within : Written (before_ages segments list) old now read → read ≤ first_age segments
-    segment_within w = let count = before_ages_count in let within = count_within (before_ages segments list) old w in omega arith
-
     pub ages_written : {part : List ℕ} {more : ℕ} → Written (before_ages segments list) old now read → first_age segments ≤ read
         → Written (ages_amounts (ages_in segments list)) (mid_of (first_age segments) (length now - first_age segments) now) part more
         → Written (amounts_of segments 1 list) old
@@ -97,9 +95,3 @@ module _ (list : List Float) (segments : ℕ) (enough : first_age segments ≤ l
     ages_written w all v =
         rw (← made_of)
         (joined (before_ages segments list) old w (ages_amounts (ages_in segments list)) (first_age segments) before_ages_count all v)
-
-    pub age_within : Written (amounts_of segments 1 list) old now read → read ≤ length list
-    age_within w =
-        let count = part_length (in_ticks segments) 1 list in
-        let within = count_within (amounts_of segments 1 list) old w in
-        omega arith

@@ -1,3 +1,5 @@
 pub mod Lists
 pub mod Measures
 pub mod Conditions
+pub mod Counted
+pub mod Laws

@@ -1,24 +1,23 @@
 -- The promise rests on it. A list of doubles: document 01, "The card", and the rows "card or list" and "doubles" of the refusals.
-use Rattle.std.specs.Prelude.{ℕ, suc, ◌-◌, ◌%◌, Bool, true, false, not, ◌&&◌, ◌||◌, cond, List, [], ◌∷◌, leb, ltb, eqb, Float, length, get_or}
+use Rattle.std.specs.Prelude.{ℕ, suc, ◌-◌, ◌%◌, Bool, true, false, not, ◌&&◌, ◌||◌, cond, List, [], ◌∷◌, leb, ltb, eqb, Float, length, get_or, Option, Some, None, Ok, Err}
 use Rattle.std.specs.Float.{nan, binary64}
 use Rattle.std.specs.Float.Ieee.{to_bits}
 use Rattle.ticks.specs.Doubles.{ticks_of, whole_of}
-use Rattle.ticks.specs.declared.Amount.{Amount}
-use Rattle.fields.specs.declared.refusal.Reading.{Reading}
 use Rattle.fields.specs.declared.refusal.Refusal.{Refusal}
 use Rattle.fields.specs.Quantities.{segments_field, ages_field, head_fields, first_segment_field, first_age_field, per_segment, per_age}
 use Rattle.fields.specs.Quantities.{fields_in, field_number}
 use Rattle.fields.specs.Limits.{most_segments, ages_out_of_range}
-use Rattle.fields.specs.Outcomes.{numbers_in, all_read, Outcome, refused, accepted}
+use Rattle.fields.specs.declared.read.Counts.{Counts}
+use Rattle.fields.specs.Outcomes.{OrRefusal, onward, numbers_in, all_read, Outcome, refused, accepted}
 
 -- "A field kept in ticks becomes the largest whole number of ticks not above it (-0.0 is 0); any other must be whole."
-abbrev pub ticks_in : Float → Amount
+abbrev pub ticks_in : Float → Option ℕ
 ticks_in x = ticks_of (to_bits binary64 x)
 
-abbrev pub whole_in : Float → Amount
+abbrev pub whole_in : Float → Option ℕ
 whole_in x = whole_of (to_bits binary64 x)
 
-abbrev pub amount_in : Bool → Float → Amount
+abbrev pub amount_in : Bool → Float → Option ℕ
 amount_in true x = ticks_in x
 amount_in false x = whole_in x
 
@@ -42,12 +41,12 @@ in_ticks segments field =
     (age_in_ticks (field - first_age_field segments)))
 
 -- some fields, the first of them numbered `field`, by which of them are kept in ticks
-unfoldable pub amounts_by : (ℕ → Bool) → ℕ → List Float → List Amount
+unfoldable pub amounts_by : (ℕ → Bool) → ℕ → List Float → List (Option ℕ)
 amounts_by in_ticks field [] = []
 amounts_by in_ticks field (x ∷ xs) = amount_in (in_ticks field) x ∷ amounts_by in_ticks (suc field) xs
 
 -- the fields of a list with so many segments, the first of them numbered `field`
-abbrev pub amounts_of : ℕ → ℕ → List Float → List Amount
+abbrev pub amounts_of : ℕ → ℕ → List Float → List (Option ℕ)
 amounts_of segments field list = amounts_by (in_ticks segments) field list
 
 -- field k is element k - 1
@@ -57,32 +56,36 @@ field_in field list = get_or list (field - 1) nan
 -- ---- the list
 
 -- "the counts in fields 23 and 24 are ranged while the shape is read, giving 2 (in a list 9 first, if 9 fits)"
-abbrev pub with_count : ℕ → Amount → (ℕ → Bool) → (ℕ → Reading) → Reading
-with_count field Amount.Refused out_of_range reading = Reading.Not (Refusal.Doubles field)
-with_count field (Amount.Of count) out_of_range reading = cond (out_of_range count) (Reading.Not (Refusal.Ranges field)) (reading count)
+abbrev pub count_by : ℕ → (ℕ → Bool) → Option ℕ → OrRefusal ℕ
+count_by field out_of_range None = Err (Refusal.Doubles field)
+count_by field out_of_range (Some count) = cond (out_of_range count) (Err (Refusal.Ranges field)) (Ok count)
 
-abbrev pub count_in : ℕ → List Float → Amount
-count_in field list = whole_in (field_in field list)
+abbrev pub count_in : ℕ → (ℕ → Bool) → List Float → OrRefusal ℕ
+count_in field out_of_range list = count_by field out_of_range (whole_in (field_in field list))
+
+-- counts that ask for so many doubles
+abbrev pub shaped : ℕ → ℕ → ℕ → OrRefusal Counts
+shaped doubles segments ages =
+    cond (eqb doubles (fields_in segments ages)) (Ok (record { segments = segments; ages = ages })) (Err (Refusal.Shape 0))
 
 -- The counts of a list that has the length they ask for. "field 23 wholly before 24; a list of under 24 doubles gives 8 before
 -- either"
-unfoldable pub counts_in : List Float → Reading
+unfoldable pub counts_in : List Float → OrRefusal Counts
 counts_in list =
-    cond (ltb (length list) head_fields) (Reading.Not (Refusal.Shape 0))
-    (with_count segments_field (count_in segments_field list) (λ segments. ltb most_segments segments)
-    (λ segments. with_count ages_field (count_in ages_field list) ages_out_of_range
-    (λ ages. cond (eqb (length list) (fields_in segments ages)) (Reading.Fields segments ages) (Reading.Not (Refusal.Shape 0)))))
+    cond (ltb (length list) head_fields) (Err (Refusal.Shape 0))
+    (onward (count_in segments_field (ltb most_segments) list)
+    (λ segments. onward (count_in ages_field ages_out_of_range list) (shaped (length list) segments)))
 
 -- row "doubles": the first field that is refused
-abbrev pub doubles_of : ℕ → ℕ → List Amount → Outcome
-doubles_of segments ages amounts =
-    cond (all_read amounts) (accepted segments ages (numbers_in amounts))
+abbrev pub doubles_of : Counts → List (Option ℕ) → Outcome
+doubles_of counts amounts =
+    cond (all_read amounts) (accepted counts.segments counts.ages (numbers_in amounts))
     (refused (Refusal.Doubles (suc (length (numbers_in amounts)))) (numbers_in amounts))
 
 -- the fields in order, where the counts are right
-abbrev pub with_counts : Reading → List Float → Outcome
-with_counts (Reading.Fields segments ages) list = doubles_of segments ages (amounts_of segments 1 list)
-with_counts (Reading.Not refusal) list = refused refusal []
+abbrev pub with_counts : OrRefusal Counts → List Float → Outcome
+with_counts (Ok counts) list = doubles_of counts (amounts_of counts.segments 1 list)
+with_counts (Err refusal) list = refused refusal []
 
 -- What a list gives.
 unfoldable pub list_outcome : List Float → Outcome

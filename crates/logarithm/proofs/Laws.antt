@@ -17,7 +17,7 @@ use Rattle.logarithm.proofs.Largest.{no_more, is_reached, no_less, is_largest}
 pub hour_reaches : (hour k : ℕ) → 10 ^ k ≤ hour ^ power → reaches hour k ≡ true
 hour_reaches hour k h = le-leb (10 ^ k) (hour ^ power) h
 
-pub beyond : (hour k : ℕ) → hour ^ power < 10 ^ suc k → (j : ℕ) → k < j → reaches hour j ≡ false
+beyond : (hour k : ℕ) → hour ^ power < 10 ^ suc k → (j : ℕ) → k < j → reaches hour j ≡ false
 beyond hour k h j more = lt-leb (10 ^ j) (hour ^ power) (lt_of_lt_of_le h (pow-le-pow_right {n = 10} (lit< tt) more))
 
 pub never_falls : (earlier hour : ℕ) → earlier ≤ hour → logarithm earlier ≤ logarithm hour

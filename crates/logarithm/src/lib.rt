@@ -1,4 +1,4 @@
-// The logarithm of an hour, by a table of thresholds that is built once a run and lent.
+// The logarithm of an hour, by a table of thresholds.
 #![tactic(auto)]
 
 ghost use Rattle.std.specs.Prelude.{◌≡◌};
@@ -10,27 +10,17 @@ mod table;
 // One more than the last k of the table.
 pub const ENTRIES: usize = 1537;
 
-// The smallest hour that reaches each k. Each use of a constant array copies it, so a run calls this once and lends the array.
-pub fn thresholds() -> [u32; ENTRIES]
-    ensures { IsTable result }
+// The smallest hour that reaches each k.
+pub fn thresholds() -> &'static [u32; ENTRIES]
+    ensures { IsTable result.now }
 {
-    table::THRESHOLDS
+    &table::THRESHOLDS
 }
 
 // The largest k with 10^k ≤ h^256.
-pub fn reading(thresholds: &[u32; ENTRIES], hour: u32) -> u64
-    requires { IsTable thresholds.now }
+pub fn reading(hour: u32) -> u64
     ensures { result ≡ logarithm hour }
 {
-    let mut reached = 0usize;
-    let mut beyond = ENTRIES;
-    while 1 < beyond - reached {
-        let middle = reached + (beyond - reached) / 2;
-        if thresholds[middle] <= hour {
-            reached = middle;
-        } else {
-            beyond = middle;
-        }
-    }
-    reached as u64
+    let beyond = thresholds().partition_point(|threshold| *threshold <= hour);
+    beyond.saturating_sub(1) as u64
 }

@@ -1,12 +1,11 @@
 -- How large U and S can be: the most of their coefficients, one times another; and how long a path: the most of its segments' lengths.
 -- Assumes nothing.
-use mathlib.Core.Path.{◌≡◌}
 use mathlib.Core.List.{List}
 use Prim.Native.Nat.{ℕ, ◌*◌, ◌≤◌}
 use native.Mathlib.Nat.{mul-le-mul, div-le_of_le-mul}
 use native.Mathlib.Omega.{arith}
 use lib.ListN.{length}
-use Rattle.fields.specs.Quantities.{Segment}
+use Rattle.fields.specs.declared.segments.Segment.{Segment}
 use Rattle.fields.specs.Limits.{most_length}
 use Rattle.coefficient.specs.declared.codes.Cure.{Cure}
 use Rattle.coefficient.specs.declared.codes.Concrete.{Concrete}
@@ -15,8 +14,11 @@ use Rattle.coefficient.proofs.Laws.{ucr_range, scf_range, mcf_range, ush_range, 
 use Rattle.member.specs.Constants.{creep_divisor, shrinkage_divisor, whole_creep, whole_shrinkage, path_length}
 use Rattle.member.specs.Facts.{SegmentsFit, no_segment, segment_fits, most_creep, most_shrinkage}
 
-pub products : {a b x y : ℕ} → a ≡ b → x ≡ y → a * x ≡ b * y
-products e f = rw (e, f)
+pub ucr_scf_product : (cure : Cure) (concrete : Concrete) (ec volume_to_surface : ℕ)
+    → ucr cure concrete ec * scf volume_to_surface ≤ most_creep * creep_divisor
+ucr_scf_product cure concrete ec volume_to_surface =
+    let most = mul-le-mul (ucr_range cure concrete ec).1 (scf_range volume_to_surface).1 in
+    omega arith
 
 pub creep_product : (cure : Cure) (concrete : Concrete) (ec volume_to_surface transfer : ℕ)
     → ucr cure concrete ec * scf volume_to_surface * mcf cure transfer ≤ most_creep * creep_divisor
@@ -38,6 +40,9 @@ shrinkage_product concrete ec volume_to_surface =
 
 pub shrinkage_most : (concrete : Concrete) (ec volume_to_surface : ℕ) → whole_shrinkage concrete ec volume_to_surface ≤ most_shrinkage
 shrinkage_most concrete ec volume_to_surface = div-le_of_le-mul shrinkage_divisor (shrinkage_product concrete ec volume_to_surface)
+
+-- what the function that computes U cites
+pub ruleset creep_bounds = (ucr_scf_product, creep_product, creep_most)
 
 pub path_most : {segments : List Segment} → SegmentsFit segments → path_length segments ≤ most_length * length segments
 unfolding path_length

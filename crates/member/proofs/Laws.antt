@@ -1,4 +1,4 @@
--- What an accepted member's quantities keep to. `accepted` gives it whole, from `checked_of` alone: each row of checks gives no place,
+-- What an accepted member's quantities keep to. `accepted` gives it whole, from `checked_of` alone: no check of its rows fails,
 -- so each of its checks holds, and each check says its bounds. Assumes nothing.
 use mathlib.Core.Path.{◌≡◌, refl, sym, ◌∙◌}
 use mathlib.Core.Bool.{Bool, true, false, not, ◌&&◌, ◌||◌, cond, and-eq-true_iff}
@@ -6,28 +6,31 @@ use mathlib.Core.List.{List, [], ◌∷◌, ◌++◌}
 use Prim.Native.Nat.{ℕ, ◌+◌, ◌*◌, ◌≤◌}
 use native.Mathlib.Omega.{arith}
 use borrow.Author.Tests.{leb-true, ltb-true, eqb-true, eqb-false}
-use lib.Dec.{leb, ltb, eqb, lit<}
-use lib.ListN.{length, drop, length-drop}
+use lib.Dec.{leb, ltb, eqb}
+use lib.ListN.{length, drop}
+use Rattle.std.specs.Prelude.{Ok}
 use Rattle.logarithm.specs.Logarithm.{service_life}
-use Rattle.fields.specs.Quantities.{head_fields, per_segment, per_age, first_segment_field, first_age_field, bend, Quantities, quantities_of}
-use Rattle.fields.specs.Quantities.{Segment, segments_from, Age, is_pretensioned, is_moist, straight, parabola}
-use Rattle.fields.specs.Outcomes.{Gives}
+use Rattle.fields.specs.declared.segments.Segment.{Segment}
+use Rattle.fields.specs.declared.segments.Age.{Age}
+use Rattle.fields.specs.declared.read.Counts.{Counts}
+use Rattle.fields.specs.Outcomes.{onward}
+use Rattle.fields.proofs.Laws.{segments_length, ages_length}
+use Rattle.fields.specs.Quantities.{head_fields, quantities_with, segments_of, per_segment, per_age, first_segment_field, first_age_field, bend, Quantities}
+use Rattle.fields.specs.Quantities.{is_pretensioned, is_moist, straight, parabola}
 use Rattle.fields.specs.Limits.{Range, range, most_of_strength, hundredths, most_length, most_moment, least_straight, least_parabola}
 use Rattle.fields.specs.Limits.{most_rise, most_angle, least_moist_transfer, most_friction, report_room, scratch_room, most_kappa}
 use Rattle.fields.specs.Limits.{most_creep_of_kappa, most_segments}
-use Rattle.fields.specs.Sizes.{most_fields}
 use Rattle.fields.specs.declared.refusal.Refusal.TheVariants.{Codes, Ranges, Hours, Duct, Buffers, Section, Creep}
-use Rattle.checks.specs.Places.{head_of, ranges_of_line1, ranges_of_line2, ranges_of_line3, ranges_of_line4}
-use Rattle.checks.specs.Rows.{CheckRow, first_failing, checked_by, within, head_codes, segment_codes, codes, ranges_of_segments}
+use Rattle.checks.specs.Places.{ranges_of_line1, ranges_of_line2, ranges_of_line3, ranges_of_line4}
+use Rattle.checks.specs.Rows.{CheckRow, checked, checked_by, within, head_codes, segment_codes, codes, ranges_of_segments}
 use Rattle.checks.specs.Rows.{ranges_of_moments, ranges, curing_fits, transfer_fits, hours_of_ages, hours, duct, buffers, section, creep}
-use Rattle.checks.proofs.Rows.{none, more}
-use Rattle.checks.proofs.RowPlaces.{head_codes_placed, line_1_placed, line_2_placed, line_3_placed, line_4_placed}
-use Rattle.checks.proofs.RowPlaces.{path_codes_placed, path_ranges_placed, moments_placed, ages_placed}
 use Rattle.checks.proofs.Holding.{Holds, all_hold, part_holds, other_true, asked_true, in_range}
-use Rattle.checks.proofs.Cascade.{row_held, given_is}
+use Rattle.checks.proofs.Cascade.{row_held, given_is, in_parts}
 use Rattle.member.specs.declared.Member.{Member}
 use Rattle.member.specs.Member.{friction_of, kappa_of, creep_of, member_of, codes_to_hours, duct_row, codes_to_duct, buffers_to_creep}
 use Rattle.member.specs.Member.{checked_of}
+use Rattle.member.specs.Checking.{BelowHours}
+use Rattle.fields.specs.Readable.{Readable}
 use Rattle.member.specs.Facts.{PathFits, SegmentFits, SegmentsFit, no_segment, segment_fits, HeadFits, RisingFrom, no_age, rises}
 use Rattle.member.specs.Facts.{MomentsWithin, no_moment, adds, Facts}
 
@@ -112,17 +115,50 @@ ages_rise place before (age ∷ ages) h =
     rises (ltb-true before age.hour both.0) (leb-true age.hour service_life both.1)
     (ages_rise (place + per_age) age.hour ages h.1)
 
--- ---- lines 1 to 4
+-- ---- the parts of the rows "codes" and "ranges"
 
--- their checks in the rows "codes", "ranges" and "hours"
-pub record HeadHolds (q : Quantities) : Type 0 where
-  pub codes_hold : Holds (head_codes q)
-  pub line_1 : Holds (ranges_of_line1 q)
-  pub line_2 : Holds (ranges_of_line2 q)
-  pub line_3 : Holds (ranges_of_line3 q)
-  pub line_4 : Holds (ranges_of_line4 q)
-  pub curing : curing_fits q ≡ true
-  pub transferred : transfer_fits q ≡ true
+module _ (q : Quantities) where
+  record Coded : Type 0 where
+    head : Holds (head_codes q)
+    path : Holds (segment_codes first_segment_field q.path)
+
+  coded : checked (codes q) ≡ Ok tt → Coded
+  unfolding codes
+  coded e =
+      let path = segment_codes first_segment_field q.path in
+      let head = part_holds (head_codes q) path e in
+      record { head = head.0; path = all_hold path head.1 }
+
+  record Ranged : Type 0 where
+    line_1 : Holds (ranges_of_line1 q)
+    line_2 : Holds (ranges_of_line2 q)
+    line_3 : Holds (ranges_of_line3 q)
+    line_4 : Holds (ranges_of_line4 q)
+    path : Holds (ranges_of_segments first_segment_field q.path)
+    moments : Holds (ranges_of_moments (first_age_field (length q.path)) q.own_weight_moment q.ages)
+
+  ranged : checked (ranges q) ≡ Ok tt → Ranged
+  unfolding ranges ranges_of_line1 ranges_of_line2 ranges_of_line3 ranges_of_line4
+  ranged e =
+      let path = ranges_of_segments first_segment_field q.path in
+      let moments = ranges_of_moments (first_age_field (length q.path)) q.own_weight_moment q.ages in
+      let from_4 = ranges_of_line4 q ++ (path ++ moments) in
+      let from_3 = ranges_of_line3 q ++ from_4 in
+      let one = part_holds (ranges_of_line1 q) (ranges_of_line2 q ++ from_3) e in
+      let two = part_holds (ranges_of_line2 q) from_3 one.1 in
+      let three = part_holds (ranges_of_line3 q) from_4 two.1 in
+      let four = part_holds (ranges_of_line4 q) (path ++ moments) three.1 in
+      let five = part_holds path moments four.1 in
+      record {
+        line_1 = one.0;
+        line_2 = two.0;
+        line_3 = three.0;
+        line_4 = four.0;
+        path = five.0;
+        moments = all_hold moments five.1;
+      }
+
+-- ---- lines 1 to 4
 
 least : (moist : Bool) (transfer : ℕ) → cond moist least_moist_transfer range.transfer.low ≤ transfer → range.transfer.low ≤ transfer
 least true transfer h = omega arith
@@ -131,14 +167,15 @@ least false transfer h = h
 lies : (range : Range) (x : ℕ) → within range.low range.high x ≡ true → (range.low ≤ x) × (x ≤ range.high)
 lies range x = in_range range.low range.high x
 
-head_fits : (q : Quantities) → HeadHolds q → HeadFits q
-head_fits q h =
-    let code = h.codes_hold in
+head_fits : (q : Quantities) → Coded q → Ranged q → curing_fits q ≡ true → transfer_fits q ≡ true → HeadFits q
+unfolding ranges_of_line1 ranges_of_line2 ranges_of_line3 ranges_of_line4
+head_fits q coded ranged cured transferred =
+    let code = coded.head in
     let kind = lies range.kind q.kind code.0 in
     let steel = lies range.steel q.steel code.1.0 in
     let cure = lies range.cure q.cure code.1.1.0 in
     let concrete = lies range.concrete q.concrete code.1.1.1.0 in
-    let one = h.line_1 in
+    let one = ranged.line_1 in
     let ultimate = lies range.ultimate_strength q.ultimate_strength one.0 in
     let of_strength = leb (hundredths * q.jacking_stress) (most_of_strength * q.ultimate_strength) in
     let jacking = (and-eq-true_iff (leb range.jacking_stress.low q.jacking_stress) of_strength).0 one.1.0 in
@@ -146,12 +183,12 @@ head_fits q h =
     let deflected = leb q.deflector_loss range.deflector_loss.high in
     let deflector = (and-eq-true_iff deflected (is_pretensioned q || none_lost)).0 one.1.1.0 in
     let length = lies range.tendon_length q.tendon_length one.1.1.1.1.0 in
-    let two = h.line_2 in
+    let two = ranged.line_2 in
     let es = lies range.Es q.Es two.0 in
     let eci = lies range.Eci q.Eci two.1.0 in
     let ec = lies range.Ec q.Ec two.1.1.0 in
     let volume = lies range.volume_to_surface q.volume_to_surface two.1.1.1.0 in
-    let three = h.line_3 in
+    let three = ranged.line_3 in
     let wide = lies range.area q.area three.0 in
     let stiff = lies range.inertia q.inertia three.1.0 in
     let steel_area = lies range.steel_area q.steel_area three.1.1.1.0 in
@@ -159,10 +196,10 @@ head_fits q h =
     let short = leb q.end_of_curing range.end_of_curing.high in
     let most = leb q.end_of_curing q.transfer in
     let kinds = not (is_pretensioned q) || until in
-    let curing = (and-eq-true_iff (most && kinds) (not (is_moist q) || short)).0 h.curing in
+    let curing = (and-eq-true_iff (most && kinds) (not (is_moist q) || short)).0 cured in
     let before = (and-eq-true_iff most kinds).0 curing.0 in
     let earliest = cond (is_moist q) least_moist_transfer range.transfer.low in
-    let transferred = in_range earliest range.transfer.high q.transfer h.transferred in
+    let transfer = in_range earliest range.transfer.high q.transfer transferred in
     record {
       kind_least = kind.0;
       kind_most = kind.1;
@@ -202,152 +239,122 @@ head_fits q h =
       curing_most = leb-true q.end_of_curing q.transfer before.0;
       curing_pretensioned = λ k. eqb-true q.end_of_curing q.transfer (asked_true (is_pretensioned q) until before.1 k);
       curing_moist = λ k. leb-true q.end_of_curing range.end_of_curing.high (asked_true (is_moist q) short curing.1 k);
-      transfer_least = least (is_moist q) q.transfer transferred.0;
-      transfer_moist = λ k. rw k at transferred.0;
-      transfer_most = transferred.1;
-      wobble_most = (lies range.wobble q.wobble h.line_4.0).1;
-      curvature_most = (lies range.curvature q.curvature h.line_4.1.0).1;
+      transfer_least = least (is_moist q) q.transfer transfer.0;
+      transfer_moist = λ k. rw k at transfer.0;
+      transfer_most = transfer.1;
+      wobble_most = (lies range.wobble q.wobble ranged.line_4.0).1;
+      curvature_most = (lies range.curvature q.curvature ranged.line_4.1.0).1;
     }
 
 -- ---- the rows "codes", "ranges" and "hours"
 
+-- what is known once none of the three fails
 module _ (q : Quantities) where
-  record Coded : Type 0 where
-    head : Holds (head_codes q)
-    path : Holds (segment_codes first_segment_field q.path)
-
-  coded : first_failing (codes q) ≡ 0 → Coded
-  coded e =
-      let head = part_holds (segment_codes first_segment_field q.path) (head_codes_placed q) e in
-      record { head = head.0; path = all_hold (path_codes_placed q) head.1 }
-
-  record Ranged : Type 0 where
-    line_1 : Holds (ranges_of_line1 q)
-    line_2 : Holds (ranges_of_line2 q)
-    line_3 : Holds (ranges_of_line3 q)
-    line_4 : Holds (ranges_of_line4 q)
-    path : Holds (ranges_of_segments first_segment_field q.path)
-    moments : Holds (ranges_of_moments (first_age_field (length q.path)) q.own_weight_moment q.ages)
-
-  ranged : first_failing (ranges q) ≡ 0 → Ranged
-  ranged e =
-      let moments = ranges_of_moments (first_age_field (length q.path)) q.own_weight_moment q.ages in
-      let from_path = ranges_of_segments first_segment_field q.path ++ moments in
-      let from_4 = ranges_of_line4 q ++ from_path in
-      let from_3 = ranges_of_line3 q ++ from_4 in
-      let one = part_holds (ranges_of_line2 q ++ from_3) (line_1_placed q) e in
-      let two = part_holds from_3 (line_2_placed q) one.1 in
-      let three = part_holds from_4 (line_3_placed q) two.1 in
-      let four = part_holds from_path (line_4_placed q) three.1 in
-      let five = part_holds moments (path_ranges_placed q) four.1 in
-      record {
-        line_1 = one.0;
-        line_2 = two.0;
-        line_3 = three.0;
-        line_4 = four.0;
-        path = five.0;
-        moments = all_hold (moments_placed q) five.1;
-      }
-
-  -- what is known once the three rows give no place
   pub record FieldsFit : Type 0 where
-    pub head_holds : HeadHolds q
-    pub segments : SegmentsFit q.path
+    pub below_hours : BelowHours q
     pub ages : RisingFrom q.transfer q.ages
     pub moments : MomentsWithin q.own_weight_moment q.ages
 
-  pub fields_fit : first_failing (codes q) ≡ 0 → first_failing (ranges q) ≡ 0 → first_failing (hours q) ≡ 0 → FieldsFit
+  pub fields_fit : checked (codes q) ≡ Ok tt → checked (ranges q) ≡ Ok tt → checked (hours q) ≡ Ok tt → FieldsFit
+  unfolding hours
   fields_fit codes_row ranges_row hours_row =
-      let c = coded codes_row in
-      let r = ranged ranges_row in
-      let h : Holds (hours q) = all_hold (more (lit< tt) (more (lit< tt) (ages_placed q))) hours_row in
+      let c = coded q codes_row in
+      let r = ranged q ranges_row in
+      let h = all_hold (hours q) hours_row in
       let place = first_age_field (length q.path) in
       record {
-        head_holds = record {
-          codes_hold = c.head;
-          line_1 = r.line_1;
-          line_2 = r.line_2;
-          line_3 = r.line_3;
-          line_4 = r.line_4;
-          curing = h.0;
-          transferred = h.1.0;
+        below_hours = record {
+          head = head_fits q c r h.0 h.1.0;
+          segments_fit = segments_fit first_segment_field first_segment_field q.path c.path r.path;
         };
-        segments = segments_fit first_segment_field first_segment_field q.path c.path r.path;
         ages = ages_rise place q.transfer q.ages h.1.1;
         moments = moments_fit place q.own_weight_moment q.ages r.moments;
       }
-
--- the segments of a card or a list, where they stand in its fields
-pub path_fits : (segments : ℕ) (fields : List ℕ) → length fields ≡ most_fields → segments ≤ most_segments
-    → SegmentsFit (segments_from segments (drop head_fields fields)) → PathFits segments (drop head_fields fields)
-path_fits segments fields whole few fit = record {
-  room = rw length-drop (omega arith);
-  segments_most = few;
-  segments_fit = fit;
-}
-
--- the fields of lines 1 to 4 keep to their limits, whatever stands behind them
-pub head_alone : (segments ages : ℕ) (fields : List ℕ) → FieldsFit (quantities_of segments ages fields) → HeadFits (head_of fields)
-head_alone segments ages fields known =
-    let h = known.head_holds in
-    head_fits (head_of fields)
-    (record {
-      codes_hold = h.codes_hold;
-      line_1 = h.line_1;
-      line_2 = h.line_2;
-      line_3 = h.line_3;
-      line_4 = h.line_4;
-      curing = h.curing;
-      transferred = h.transferred;
-    })
 
 -- ---- the rows to "hours", and that of the duct: what is known where they hold, and a value is given by those below
 
 pub record ToHours {A : Type 0} (q : Quantities) (rows : List CheckRow) (value given : A) : Type 0 where
   pub fields : FieldsFit q
-  pub below : checked_by rows value ≡ Gives given
+  pub below : checked_by rows value ≡ Ok given
 
 pub to_hours : {A : Type 0} (q : Quantities) (rows : List CheckRow) (value : A) {given : A}
-    → checked_by (codes_to_hours q ++ rows) value ≡ Gives given → ToHours q rows value given
+    → checked_by (codes_to_hours q ++ rows) value ≡ Ok given → ToHours q rows value given
 to_hours q rows value e =
     let codes_row = row_held Codes (codes q) _ value e in
     let ranges_row = row_held Ranges (ranges q) _ value codes_row.below in
     let hours_row = row_held Hours (hours q) _ value ranges_row.below in
     record {
-      fields = fields_fit q codes_row.no_place ranges_row.no_place hours_row.no_place;
+      fields = fields_fit q codes_row.holds ranges_row.holds hours_row.holds;
       below = hours_row.below;
     }
 
 pub record DuctHeld {A : Type 0} (q : Quantities) (rows : List CheckRow) (value given : A) : Type 0 where
   pub no_path : is_pretensioned q ≡ true → length q.path ≡ 0
   pub friction_most : friction_of q ≤ most_friction
-  pub below : checked_by rows value ≡ Gives given
+  pub below : checked_by rows value ≡ Ok given
 
 pub duct_held : {A : Type 0} (q : Quantities) (rows : List CheckRow) (value : A) {given : A}
-    → checked_by (duct_row q ∷ rows) value ≡ Gives given → DuctHeld q rows value given
+    → checked_by (duct_row q ∷ rows) value ≡ Ok given → DuctHeld q rows value given
 duct_held q rows value e =
     let ducted = duct (is_pretensioned q) (length q.path) (friction_of q) in
     let duct_row_held = row_held Duct ducted _ value e in
-    let d : Holds ducted = all_hold (more (lit< tt) (more (lit< tt) none)) duct_row_held.no_place in
+    let d = all_hold ducted duct_row_held.holds in
     record {
       no_path = λ k. eqb-true (length q.path) 0 (asked_true (is_pretensioned q) (eqb (length q.path) 0) d.0 k);
       friction_most = leb-true (friction_of q) most_friction d.1.0;
       below = duct_row_held.below;
     }
 
--- ---- an accepted member
+-- ---- what the code of the rows knows on its way down
+
+pub below_hours : (q : Quantities) → checked_by (codes_to_hours q) (tt {0}) ≡ Ok tt → BelowHours q
+below_hours q e = (to_hours q [] (tt {0}) e).fields.below_hours
+
+pub to_duct : (q : Quantities)
+    → checked_by (codes_to_duct q) (friction_of q)
+    ≡ onward (checked_by (codes_to_hours q) (tt {0})) (λ held. checked_by (duct_row q ∷ []) (friction_of q))
+to_duct q = in_parts (codes_to_hours q) (duct_row q ∷ []) (tt {0}) (friction_of q)
+
+pub below_duct : (q : Quantities) {friction : ℕ} → checked_by (codes_to_duct q) (friction_of q) ≡ Ok friction → BelowHours q
+below_duct q e = (to_hours q (duct_row q ∷ []) (friction_of q) e).fields.below_hours
+
+pub friction_given : (q : Quantities) {friction : ℕ} → checked_by (codes_to_duct q) (friction_of q) ≡ Ok friction → friction ≡ friction_of q
+friction_given q = given_is (codes_to_duct q) (friction_of q)
 
 pub by_rows : (q : Quantities) (report scratch : ℕ)
     → checked_of q report scratch ≡ checked_by (codes_to_duct q ++ buffers_to_creep q report scratch) (member_of q)
 unfolding checked_of
 by_rows q report scratch = refl
 
+pub to_creep : (q : Quantities) (report scratch : ℕ)
+    → checked_of q report scratch
+    ≡ onward (checked_by (codes_to_duct q) (friction_of q)) (λ friction. checked_by (buffers_to_creep q report scratch) (member_of q))
+to_creep q report scratch =
+    by_rows q report scratch ∙ in_parts (codes_to_duct q) (buffers_to_creep q report scratch) (friction_of q) (member_of q)
+
+-- ---- the segments and the ages of lent fields, by their counts
+
+pub path_counted : (counts : Counts) (numbers : List ℕ) → length (quantities_with counts numbers).path ≡ counts.segments
+path_counted counts numbers = segments_length counts.segments (drop head_fields numbers)
+
+pub ages_counted : (counts : Counts) (numbers : List ℕ) → length (quantities_with counts numbers).ages ≡ counts.ages
+ages_counted counts numbers = ages_length counts.ages (drop (head_fields + per_segment * counts.segments) numbers)
+
+-- the fields of a path, all of them, whose segments fit
+pub path_fits : (counts : Counts) (numbers : List ℕ) {q : Quantities} {path : List ℕ} → quantities_with counts numbers ≡ q
+    → Readable counts numbers → length path ≡ per_segment * length q.path → segments_of path ≡ q.path → SegmentsFit q.path → PathFits path
+path_fits counts numbers {q} is readable whole same fit =
+    let few : length q.path ≤ most_segments = rw (← is, path_counted counts numbers) readable.segments_most in
+    record { few = omega arith; segments_fit = rw same fit }
+
+-- ---- an accepted member
+
 pub record AcceptedMember (q : Quantities) (report scratch : ℕ) (m : Member) : Type 0 where
   pub is : m ≡ member_of q
   pub facts : Facts q report scratch
 
 -- "Refusal by place of checking", read the other way round
-pub accepted : (q : Quantities) (report scratch : ℕ) {m : Member} → checked_of q report scratch ≡ Gives m
+pub accepted : (q : Quantities) (report scratch : ℕ) {m : Member} → checked_of q report scratch ≡ Ok m
     → AcceptedMember q report scratch m
 accepted q report scratch e =
     let value = member_of q in
@@ -358,14 +365,14 @@ accepted q report scratch e =
     let buffers_row = row_held Buffers lent _ value ducted.below in
     let section_row = row_held (λ place. Section) (section (kappa_of q)) _ value buffers_row.below in
     let creep_row = row_held (λ place. Creep) (creep (creep_of q * kappa_of q)) _ value section_row.below in
-    let b : Holds lent = all_hold (more (lit< tt) (more (lit< tt) none)) buffers_row.no_place in
-    let s : Holds (section (kappa_of q)) = all_hold (more (lit< tt) none) section_row.no_place in
-    let u : Holds (creep (creep_of q * kappa_of q)) = all_hold (more (lit< tt) none) creep_row.no_place in
+    let b = all_hold lent buffers_row.holds in
+    let s = all_hold (section (kappa_of q)) section_row.holds in
+    let u = all_hold (creep (creep_of q * kappa_of q)) creep_row.holds in
     record {
       is = given_is [] value creep_row.below;
       facts = record {
-        head = head_fits q known.head_holds;
-        segments_fit = known.segments;
+        head = known.below_hours.head;
+        segments_fit = known.below_hours.segments_fit;
         ages_rise = known.ages;
         moments_fit = known.moments;
         no_path = ducted.no_path;

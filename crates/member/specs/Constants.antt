@@ -2,7 +2,8 @@
 -- 1, and document 02, W3 and W5.
 use Rattle.std.specs.Prelude.{ℕ, ◌+◌, ◌*◌, ◌/◌, ◌^◌, cond, List, [], ◌∷◌, eqb, take}
 use Rattle.ticks.specs.Ticks.{ticks_per_unit, T}
-use Rattle.fields.specs.Quantities.{Segment, parabola, bend, Quantities}
+use Rattle.fields.specs.declared.segments.Segment.{Segment}
+use Rattle.fields.specs.Quantities.{parabola, bend, Quantities}
 use Rattle.formulas.specs.Steps.{stress_left, kappa_unit}
 use Rattle.coefficient.specs.declared.codes.Cure.{Cure}
 use Rattle.coefficient.specs.declared.codes.Concrete.{Concrete}

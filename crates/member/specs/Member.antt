@@ -67,7 +67,6 @@ member_of q = record {
   kappa = kappa_of q;
   creep = creep_of q;
   shrinkage = shrinkage_of q;
-  ages = length q.ages;
 }
 
 -- ---- "Refusal by place of checking, top to bottom"

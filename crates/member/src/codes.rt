@@ -1,4 +1,5 @@
-// What the codes stand for, once they are listed.
+// What the codes stand for, once they are listed. A TryFrom would be no plainer: no code comes here that row "codes" refuses, so that its
+// error could not be met, and its caller would have to prove so.
 ghost use Rattle.std.specs.Prelude.{◌≡◌};
 ghost use Rattle.member.specs.Member.{kind_of, steel_of, cure_of, concrete_of};
 
@@ -8,39 +9,35 @@ use fields::places;
 pub fn kind_of(code: u64) -> Kind
     ensures { result ≡ kind_of code }
 {
-    if code == places::PRETENSIONED {
-        Kind::Pretensioned
-    } else {
-        Kind::PostTensioned
+    match code {
+        places::PRETENSIONED => Kind::Pretensioned,
+        _ => Kind::PostTensioned,
     }
 }
 
 pub fn steel_of(code: u64) -> Steel
     ensures { result ≡ steel_of code }
 {
-    if code == places::STRESS_RELIEVED {
-        Steel::StressRelieved
-    } else {
-        Steel::LowRelaxation
+    match code {
+        places::STRESS_RELIEVED => Steel::StressRelieved,
+        _ => Steel::LowRelaxation,
     }
 }
 
 pub fn cure_of(code: u64) -> Cure
     ensures { result ≡ cure_of code }
 {
-    if code == places::MOIST {
-        Cure::Moist
-    } else {
-        Cure::Accelerated
+    match code {
+        places::MOIST => Cure::Moist,
+        _ => Cure::Accelerated,
     }
 }
 
 pub fn concrete_of(code: u64) -> Concrete
     ensures { result ≡ concrete_of code }
 {
-    if code == places::NORMAL {
-        Concrete::Normal
-    } else {
-        Concrete::Lightweight
+    match code {
+        places::NORMAL => Concrete::Normal,
+        _ => Concrete::Lightweight,
     }
 }

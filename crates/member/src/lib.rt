@@ -2,26 +2,22 @@
 #![tactic(auto)]
 
 ghost use Rattle.std.specs.Prelude.{◌≡◌, [], ◌∷◌};
-ghost use Rattle.fields.specs.Given.{number_given, rows_given};
-ghost use Rattle.fields.specs.Quantities.{quantities_of};
 ghost use Rattle.checks.specs.Rows.{checked_by};
-ghost use Rattle.checks.specs.Readable.{Readable};
-ghost use Rattle.checks.specs.Places.{head_of};
-ghost use Rattle.member.specs.Facts.{HeadFits, most_creep, AtMost};
-ghost use Rattle.member.specs.Member.{hours_of, friction_of, creep_of, shrinkage_of, member_of, codes_to_hours, duct_row};
-ghost use Rattle.member.specs.Member.{codes_to_duct, buffers_to_creep, checked_of};
-ghost use Rattle.member.specs.Checking.{checked, BelowHours, BelowDuct, Computed};
+ghost use Rattle.member.specs.Member.{friction_of, member_of, codes_to_hours, duct_row, codes_to_duct, buffers_to_creep, checked_of};
+ghost use Rattle.member.specs.Checking.{BelowHours};
 
 pub mod codes;
 pub mod path;
+mod ranged;
 pub mod section;
 
 use coefficient::clocks::MemberHours;
 use coefficient::codes::Steel;
-use fields::layout::{HEAD_FIELDS, from_element};
-use fields::limits::{MOST_CREEP_OF_KAPPA, MOST_FIELDS, MOST_KAPPA};
+use fields::limits::{MOST_CREEP_OF_KAPPA, MOST_KAPPA};
 use fields::places;
-use fields::refusal::{NumberOrRefusal, Refusal, Rows};
+use fields::read::Fields;
+use fields::refusal::Refusal;
+use ranged::Ranged;
 
 // What the run uses of an accepted member, by the papers' names. Its segments and its ages stay in the fields.
 #[derive(Clone, Copy)]
@@ -44,189 +40,71 @@ pub struct Member {
     pub kappa: u64,
     pub creep: u64,
     pub shrinkage: u64,
-    pub ages: u64,
-}
-
-#[derive(Clone, Copy)]
-pub enum Checked {
-    Accepted(Member),
-    Refused(Refusal),
-}
-
-fn creep_of(fields: &[u64; MOST_FIELDS]) -> u64
-    requires { HeadFits (head_of fields.now) }
-    ensures { AtMost most_creep (creep_of (head_of fields.now)) result }
-{
-    let cure = codes::cure_of(fields[places::CURE]);
-    let concrete = codes::concrete_of(fields[places::CONCRETE]);
-    let ec = fields[places::EC] as u32;
-    let volume_to_surface = fields[places::VOLUME_TO_SURFACE] as u32;
-    section::whole_creep(
-        cure,
-        concrete,
-        ec,
-        volume_to_surface,
-        fields[places::TRANSFER] as u32,
-    )
-}
-
-fn shrinkage_of(fields: &[u64; MOST_FIELDS]) -> u64
-    requires { HeadFits (head_of fields.now) }
-    ensures { result ≡ shrinkage_of (head_of fields.now) }
-{
-    let concrete = codes::concrete_of(fields[places::CONCRETE]);
-    let ec = fields[places::EC] as u32;
-    section::whole_shrinkage(concrete, ec, fields[places::VOLUME_TO_SURFACE] as u32)
-}
-
-fn hours_of(fields: &[u64; MOST_FIELDS]) -> MemberHours
-    requires { HeadFits (head_of fields.now) }
-    ensures { result ≡ hours_of (head_of fields.now) }
-{
-    MemberHours {
-        kind: codes::kind_of(fields[places::KIND]),
-        end_of_curing: fields[places::END_OF_CURING] as u32,
-        transfer: fields[places::TRANSFER] as u32,
-    }
-}
-
-fn member_of(
-    fields: &[u64; MOST_FIELDS],
-    segments: u64,
-    ages: u64,
-    friction: u64,
-    kappa: u64,
-    creep: u64,
-) -> Member
-    requires { Computed segments ages friction kappa creep fields.now }
-    ensures { result ≡ member_of (quantities_of segments ages fields.now) }
-{
-    Member {
-        hours: hours_of(fields),
-        steel: codes::steel_of(fields[places::STEEL]),
-        ultimate_strength: fields[places::ULTIMATE_STRENGTH],
-        jacking_stress: fields[places::JACKING_STRESS],
-        deflector_loss: fields[places::DEFLECTOR_LOSS],
-        slip: fields[places::SLIP],
-        length: fields[places::TENDON_LENGTH],
-        es: fields[places::ES],
-        eci: fields[places::ECI],
-        ec: fields[places::EC],
-        inertia: fields[places::INERTIA],
-        eccentricity: fields[places::ECCENTRICITY],
-        own_weight_moment: fields[places::OWN_WEIGHT_MOMENT],
-        friction,
-        path_length: path::path_length(from_element(fields, HEAD_FIELDS), segments as usize),
-        kappa,
-        creep,
-        shrinkage: shrinkage_of(fields),
-        ages,
-    }
-}
-
-// Rows "buffers", "section" and "creep", where those above hold.
-fn check_below_duct(
-    fields: &[u64; MOST_FIELDS],
-    segments: u64,
-    ages: u64,
-    friction: u64,
-    report: usize,
-    scratch: usize,
-) -> Checked
-    requires { BelowDuct segments ages friction fields.now }
-    ensures { checked result ≡ checked_by (buffers_to_creep (quantities_of segments ages fields.now) report scratch)
-        (member_of (quantities_of segments ages fields.now)) }
-{
-    let failing = checks::buffers::first_failing(ages as usize, report, scratch);
-    if failing != 0 {
-        return Checked::Refused(Refusal::Buffers(failing));
-    }
-    let area = fields[places::AREA];
-    let inertia = fields[places::INERTIA];
-    let kappa = section::kappa_of(
-        fields[places::STEEL_AREA],
-        area,
-        fields[places::ECCENTRICITY],
-        inertia,
-    );
-    if MOST_KAPPA < kappa {
-        return Checked::Refused(Refusal::Section);
-    }
-    let creep = creep_of(fields);
-    if MOST_CREEP_OF_KAPPA < creep * kappa {
-        return Checked::Refused(Refusal::Creep);
-    }
-    Checked::Accepted(member_of(fields, segments, ages, friction, kappa, creep))
 }
 
 // "Refusal by place of checking, top to bottom", from row "codes" to row "hours".
-pub fn check_to_hours(fields: &[u64; MOST_FIELDS], segments: u64, ages: u64) -> Rows
-    requires { Readable segments ages fields.now }
-    ensures { rows_given result ≡ checked_by (codes_to_hours (quantities_of segments ages fields.now)) tt }
+#[tactic(auto, using(checks::proofs::Cascade::rows_made))]
+pub fn check_to_hours(fields: &Fields) -> Result<(), Refusal>
+    ensures { result ≡ checked_by (codes_to_hours fields.now) tt }
 {
-    let failing = checks::codes::first_failing(fields, segments as usize);
-    if failing != 0 {
-        return Rows::Refused(Refusal::Codes(failing));
-    }
-    let failing = checks::ranges::first_failing(fields, segments as usize, ages as usize);
-    if failing != 0 {
-        return Rows::Refused(Refusal::Ranges(failing));
-    }
-    let failing = checks::hours::first_failing(fields, segments as usize, ages as usize);
-    if failing != 0 {
-        return Rows::Refused(Refusal::Hours(failing));
-    }
-    Rows::Hold
+    checks::codes::check(fields).map_err(Refusal::Codes)?;
+    checks::ranges::check(fields).map_err(Refusal::Ranges)?;
+    checks::hours::check(fields).map_err(Refusal::Hours)
 }
 
 // Row "duct", where those above hold: X, or its refusal.
-pub fn check_duct(fields: &[u64; MOST_FIELDS], segments: u64) -> NumberOrRefusal
-    requires { BelowHours segments fields.now }
-    ensures { number_given result ≡ checked_by (duct_row (quantities_of segments 0 fields.now) ∷ [])
-        (friction_of (quantities_of segments 0 fields.now)) }
+pub fn check_duct(fields: &Fields) -> Result<u64, Refusal>
+    requires { BelowHours fields.now }
+    ensures { result ≡ checked_by (duct_row fields.now ∷ []) (friction_of fields.now) }
 {
-    let friction = path::path_friction(
-        from_element(fields, HEAD_FIELDS),
-        segments as usize,
-        fields[places::WOBBLE],
-        fields[places::CURVATURE],
-    );
-    let pretensioned = fields[places::KIND] == places::PRETENSIONED;
-    let failing = checks::duct::first_failing(pretensioned, segments, friction);
-    if failing != 0 {
-        return NumberOrRefusal::Refused(Refusal::Duct(failing));
-    }
-    NumberOrRefusal::Number(friction)
+    let wobble = fields.numbers[places::WOBBLE];
+    let curvature = fields.numbers[places::CURVATURE];
+    let friction = path::path_friction(fields.path(), wobble, curvature);
+    checks::duct::check(fields.is_pretensioned(), fields.counts.segments, friction).map_err(
+        Refusal::Duct,
+    )?;
+    Ok(friction)
 }
 
 // From row "codes" to row "duct": X, or the first refusal.
-fn check_to_duct(fields: &[u64; MOST_FIELDS], segments: u64, ages: u64) -> NumberOrRefusal
-    requires { Readable segments ages fields.now }
-    ensures { number_given result ≡ checked_by (codes_to_duct (quantities_of segments ages fields.now))
-        (friction_of (quantities_of segments ages fields.now)) }
+#[tactic(auto, using(crate::proofs::Laws::to_duct))]
+fn check_to_duct(fields: &Fields) -> Result<u64, Refusal>
+    ensures { result ≡ checked_by (codes_to_duct fields.now) (friction_of fields.now) }
 {
-    match check_to_hours(fields, segments, ages) {
-        Rows::Hold => check_duct(fields, segments),
-        Rows::Refused(refusal) => NumberOrRefusal::Refused(refusal),
+    check_to_hours(fields)?;
+    check_duct(fields)
+}
+
+// Rows "buffers", "section" and "creep", where those above hold.
+#[tactic(auto, using(checks::proofs::Cascade::rows_made, crate::proofs::Laws::ages_counted))]
+fn check_below_duct(
+    ranged: &Ranged,
+    friction: u64,
+    report: usize,
+    scratch: usize,
+) -> Result<Member, Refusal>
+    requires { friction ≡ friction_of ranged.now }
+    ensures { result ≡ checked_by (buffers_to_creep ranged.now report scratch) (member_of ranged.now) }
+{
+    let fields = ranged.fields;
+    checks::buffers::check(fields.counts.ages, report, scratch).map_err(Refusal::Buffers)?;
+    let kappa = ranged.kappa();
+    if MOST_KAPPA < kappa {
+        return Err(Refusal::Section);
     }
+    let creep = ranged.creep();
+    if MOST_CREEP_OF_KAPPA < creep * kappa {
+        return Err(Refusal::Creep);
+    }
+    Ok(ranged.member(friction, kappa, creep))
 }
 
 // From row "codes" to row "creep": the accepted member, or the first refusal. `report` and `scratch` are the lengths of the lent
 // buffers.
-pub fn check_member(
-    fields: &[u64; MOST_FIELDS],
-    segments: u64,
-    ages: u64,
-    report: usize,
-    scratch: usize,
-) -> Checked
-    requires { Readable segments ages fields.now }
-    ensures { checked result ≡ checked_of (quantities_of segments ages fields.now) report scratch }
+#[tactic(auto, using(crate::proofs::Laws::to_creep))]
+pub fn check_member(fields: &Fields, report: usize, scratch: usize) -> Result<Member, Refusal>
+    ensures { result ≡ checked_of fields.now report scratch }
 {
-    match check_to_duct(fields, segments, ages) {
-        NumberOrRefusal::Number(friction) => {
-            check_below_duct(fields, segments, ages, friction, report, scratch)
-        }
-        NumberOrRefusal::Refused(refusal) => Checked::Refused(refusal),
-    }
+    let friction = check_to_duct(fields)?;
+    check_below_duct(&Ranged { fields }, friction, report, scratch)
 }

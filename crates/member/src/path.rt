@@ -1,8 +1,7 @@
 // X, the friction of a path, and its length.
 ghost use Rattle.std.specs.Prelude.{◌≡◌};
-ghost use Rattle.fields.specs.Quantities.{segments_from};
+ghost use Rattle.fields.specs.Quantities.{segments_of};
 ghost use Rattle.fields.specs.Limits.{range};
-ghost use Rattle.checks.specs.Places.{segment};
 ghost use Rattle.member.specs.Constants.{wobble_part, curvature_part, segment_friction, path_friction};
 ghost use Rattle.member.specs.Constants.{path_length};
 ghost use Rattle.member.specs.Facts.{PartFits, SegmentFrictionFits, PathFits, PathFrictionFits, most_part};
@@ -10,66 +9,59 @@ ghost use Rattle.member.specs.Facts.{most_segment_friction, AtMost};
 
 use fields::layout::PER_SEGMENT;
 use fields::places;
+use fields::segments::Segment;
 use ticks::{T, TICKS_PER_UNIT};
 
 const MILLION: u64 = 1_000_000;
 
-fn wobble_part(wobble: u64, kind: u64, length: u64, rise: u64) -> u64
-    requires { PartFits range.wobble.high wobble (segment kind length rise) }
-    ensures { AtMost most_part (wobble_part wobble (segment kind length rise)) result }
+fn wobble_part(wobble: u64, segment: Segment) -> u64
+    requires { PartFits range.wobble.high wobble segment }
+    ensures { AtMost most_part (wobble_part wobble segment) result }
 {
-    wobble * length * T / (TICKS_PER_UNIT * MILLION)
+    wobble * segment.length * T / (TICKS_PER_UNIT * MILLION)
 }
 
-fn curvature_part(curvature: u64, kind: u64, length: u64, rise: u64) -> u64
-    requires { PartFits range.curvature.high curvature (segment kind length rise) }
-    ensures { AtMost most_part (curvature_part curvature (segment kind length rise)) result }
+fn curvature_part(curvature: u64, segment: Segment) -> u64
+    requires { PartFits range.curvature.high curvature segment }
+    ensures { AtMost most_part (curvature_part curvature segment) result }
 {
-    if kind == places::BEND {
-        return curvature * rise * T / (TICKS_PER_UNIT * MILLION);
+    match segment.kind {
+        places::BEND => curvature * segment.rise * T / (TICKS_PER_UNIT * MILLION),
+        places::PARABOLA => curvature * (2 * segment.rise) * T / (segment.length * MILLION),
+        _ => 0,
     }
-    if kind == places::PARABOLA {
-        return curvature * (2 * rise) * T / (length * MILLION);
-    }
-    0
 }
 
 // What a segment adds to X: its two parts.
-pub fn segment_friction(wobble: u64, curvature: u64, kind: u64, length: u64, rise: u64) -> u64
-    requires { SegmentFrictionFits wobble curvature (segment kind length rise) }
-    ensures { AtMost most_segment_friction (segment_friction wobble curvature (segment kind length rise)) result }
+pub fn segment_friction(wobble: u64, curvature: u64, segment: Segment) -> u64
+    requires { SegmentFrictionFits wobble curvature segment }
+    ensures { AtMost most_segment_friction (segment_friction wobble curvature segment) result }
 {
-    wobble_part(wobble, kind, length, rise) + curvature_part(curvature, kind, length, rise)
+    wobble_part(wobble, segment) + curvature_part(curvature, segment)
 }
 
-// X of the segments with which `part` begins.
-pub fn path_friction(part: &[u64], segments: usize, wobble: u64, curvature: u64) -> u64
-    requires { PathFrictionFits wobble curvature segments part.now }
-    ensures { result ≡ path_friction wobble curvature (segments_from segments part.now) }
+// X of the segments whose fields `path` has.
+#[tactic(auto, using(crate::proofs::Along::friction_along))]
+pub fn path_friction(path: &[u64], wobble: u64, curvature: u64) -> u64
+    requires { PathFrictionFits wobble curvature path.now }
+    ensures { result ≡ path_friction wobble curvature (segments_of path.now) }
 {
     let mut friction = 0u64;
-    let mut segment = 0usize;
-    while segment < segments {
-        let at = PER_SEGMENT * segment;
-        let kind = part[at];
-        let length = part[at + 1];
-        let rise = part[at + 2];
-        friction += segment_friction(wobble, curvature, kind, length, rise);
-        segment += 1;
+    for part in path.chunks_exact(PER_SEGMENT) {
+        friction += segment_friction(wobble, curvature, Segment::at(part));
     }
     friction
 }
 
-// The length of the segments with which `part` begins.
-pub fn path_length(part: &[u64], segments: usize) -> u64
-    requires { PathFits segments part.now }
-    ensures { result ≡ path_length (segments_from segments part.now) }
+// The length of the segments whose fields `path` has.
+#[tactic(auto, using(crate::proofs::Along::length_along))]
+pub fn path_length(path: &[u64]) -> u64
+    requires { PathFits path.now }
+    ensures { result ≡ path_length (segments_of path.now) }
 {
     let mut length = 0u64;
-    let mut segment = 0usize;
-    while segment < segments {
-        length += part[PER_SEGMENT * segment + 1];
-        segment += 1;
+    for part in path.chunks_exact(PER_SEGMENT) {
+        length += Segment::at(part).length;
     }
     length
 }

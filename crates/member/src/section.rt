@@ -25,6 +25,7 @@ pub(crate) fn kappa_of(steel_area: u64, area: u64, eccentricity: u64, inertia: u
     axial + bending
 }
 
+#[tactic(auto, using(crate::proofs::Bounds::creep_bounds))]
 pub fn whole_creep(
     cure: Cure,
     concrete: Concrete,
@@ -40,6 +41,7 @@ pub fn whole_creep(
     ucr * scf * mcf / CREEP_DIVISOR
 }
 
+#[tactic(auto, using(crate::proofs::Bounds::shrinkage_product))]
 pub fn whole_shrinkage(concrete: Concrete, ec: u32, volume_to_surface: u32) -> u64
     ensures { result ≡ whole_shrinkage concrete ec volume_to_surface }
 {

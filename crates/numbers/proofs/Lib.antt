@@ -1,4 +1,3 @@
-pub mod ListBytes
-mod NumberBytes
 mod Bytes
 mod Doubles
+mod FirstDoubles

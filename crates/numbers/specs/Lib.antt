@@ -1,3 +1,4 @@
 pub mod Numbers
 pub mod ReadDoubles
 pub mod Conditions
+pub mod Laws

@@ -1,20 +1,21 @@
 -- The theorem `marked` rests on it. The readings that document 01 marks ★, and its edges, in the order of its "Sample beam"; the edges of
 -- document 02's 11, 12 and 13, the elongation sheet of document 002's example 1, and two members whose gauges differ by a psi: one list of
 -- what the definitions of the other crates give, to be held beside the papers.
-use Rattle.std.specs.Prelude.{ℕ, zero, suc, ◌+◌, ◌-◌, ◌*◌, ◌^◌, ◌≤◌, true, false, List, [], ◌∷◌, ◌++◌, map, ◌≡◌, Float}
+use Rattle.std.specs.Prelude.{ℕ, zero, suc, ◌+◌, ◌-◌, ◌*◌, ◌^◌, ◌≤◌, true, false, List, [], ◌∷◌, ◌++◌, map, ◌≡◌, Float, Some, Ok, Err}
 use Rattle.std.specs.Float.{binary64}
 use Rattle.std.specs.Float.Ieee.{round}
-use Rattle.ticks.specs.declared.Amount.{Amount}
 use Rattle.ticks.specs.Doubles.{ticks_of, magnitude, one}
 use Rattle.logarithm.specs.Logarithm.{logarithm}
 use Rattle.coefficient.specs.declared.codes.Cure.{Cure}
 use Rattle.coefficient.specs.declared.clocks.HoursSinceTransfer.{HoursSinceTransfer}
 use Rattle.coefficient.specs.Coefficients.{scf, mcf, creep_share}
 use Rattle.fields.specs.Limits.{most_ages, report_room, scratch_room}
-use Rattle.fields.specs.Outcomes.{accepted, OrRefusal, Gives, Refuses}
+use Rattle.fields.specs.Outcomes.{accepted, OrRefusal}
 use Rattle.card.specs.Card.{card_outcome}
 use Rattle.list.specs.Lists.{list_outcome}
-use Rattle.fields.specs.Quantities.{Quantities, Segment, Age, parabola, quantities_of, quantities_read}
+use Rattle.fields.specs.declared.segments.Age.{Age}
+use Rattle.fields.specs.declared.segments.Segment.{Segment}
+use Rattle.fields.specs.Quantities.{Quantities, parabola, quantities_of, quantities_read}
 use Rattle.fields.specs.declared.refusal.Refusal.{Refusal}
 use Rattle.fields.specs.Refusals.{number, place, may_alter_scratch}
 use Rattle.formulas.specs.Steps.{dies_out, drop_at_jack}
@@ -163,37 +164,37 @@ result_of_card card = result_read (card_outcome card) (report_room most_ages) (s
 
 -- a refusal's number and place, both "0 if accepted"
 abbrev pub number_and_place : OrRefusal Report → List ℕ
-number_and_place (Gives report) = 0 ∷ 0 ∷ []
-number_and_place (Refuses refusal) = number refusal ∷ place refusal ∷ []
+number_and_place (Ok report) = 0 ∷ 0 ∷ []
+number_and_place (Err refusal) = number refusal ∷ place refusal ∷ []
 
 -- X that a card's duct has, and 0 of a card that is not read
 abbrev pub friction_read : OrRefusal Quantities → ℕ
-friction_read (Gives q) = friction_of q
-friction_read (Refuses refusal) = 0
+friction_read (Ok q) = friction_of q
+friction_read (Err refusal) = 0
 
 abbrev pub friction_of_card : List ℕ → ℕ
 friction_of_card card = friction_read (quantities_read (card_outcome card))
 
 -- the ages of a card
 abbrev pub ages_read : OrRefusal Quantities → List Age
-ages_read (Gives q) = q.ages
-ages_read (Refuses refusal) = []
+ages_read (Ok q) = q.ages
+ages_read (Err refusal) = []
 
 abbrev pub age : ℕ → ℕ → Age
 age hour moment = record { hour = hour; moment = moment }
 
 -- the stress after the first age's gain, before it is looked at; 0 of a member that does not reach the age
 abbrev pub first_lifted : Member → OrRefusal BeforeAges → List Age → ℕ
-first_lifted m (Gives before) (first ∷ ages) =
+first_lifted m (Ok before) (first ∷ ages) =
     let start = transfer_end m in
     let end = end_at m (start.moments + first.moment) first.hour in
     before.stress - together (losses_between m before.stress start end) + gain_between m start end
-first_lifted m (Gives before) [] = 0
-first_lifted m (Refuses refusal) ages = 0
+first_lifted m (Ok before) [] = 0
+first_lifted m (Err refusal) ages = 0
 
 abbrev pub first_lifted_read : OrRefusal Quantities → ℕ
-first_lifted_read (Gives q) = first_lifted (member_of q) (begun_of (member_of q)) q.ages
-first_lifted_read (Refuses refusal) = 0
+first_lifted_read (Ok q) = first_lifted (member_of q) (begun_of (member_of q)) q.ages
+first_lifted_read (Err refusal) = 0
 
 abbrev pub first_lifted_of : List ℕ → ℕ
 first_lifted_of card = first_lifted_read (quantities_read (card_outcome card))
@@ -250,7 +251,7 @@ pub record Marked : Type 0 where
   -- "this sample": the fields of its text, its ages (the first, the second, the third), what it gives, and what is printed for it
   pub sample_fields : card_outcome sample ≡ accepted 0 3 (fields_of sample_lines)
   pub sample_ages : ages_read (quantities_read (card_outcome sample)) ≡ age 744 0 ∷ age 8784 0 ∷ age 438000 0 ∷ []
-  pub sample_result : result_of_card sample ≡ Gives (record { before = sample_before; rows = row1 ∷ row2 ∷ row3 ∷ []; last = 91437232 })
+  pub sample_result : result_of_card sample ≡ Ok (record { before = sample_before; rows = row1 ∷ row2 ∷ row3 ∷ []; last = 91437232 })
   pub sample_printed : text_of Program.Report sample
       ≡ lines_of (line_before sample_before ∷ age_line 1 744 row1 ∷ age_line 2 8784 row2 ∷ age_line 3 438000 row3 ∷ [])
   -- "A host may instead lend one list of doubles": it is read as the card is
@@ -270,7 +271,7 @@ pub record Marked : Type 0 where
   -- "creep share at 36 h 1,929,379", whatever the clock reads at the end of the service life
   pub creep_36 : (life : HoursSinceTransfer) → creep_share life (creep_clock 36) ≡ 1929379
   -- "double 0.153 gives 156"; no double is nearer to 0.153
-  pub double_156 : ticks_of double0153 ≡ Amount.Of 156
+  pub double_156 : ticks_of double0153 ≡ Some 156
   pub double_above : 153 * one ≤ 1000 * (magnitude double0153 + half_apart)
   pub double_below : 1000 * magnitude double0153 ≤ 153 * one + 1000 * half_apart
   -- "parabola 65,536 by 2,560, wobble 200, curvature 150,000: X 411,356"

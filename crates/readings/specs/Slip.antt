@@ -5,8 +5,7 @@ use Rattle.fields.specs.Outcomes.{Outcome}
 use Rattle.fields.specs.Quantities.{quantities_read}
 use Rattle.card.specs.Card.{slip_may_be_blank, outcome_of, card_outcome}
 use Rattle.card.specs.Slip.{SlipIsBlank, with_slip}
-use Rattle.entries.specs.declared.Answer.{Answer}
-use Rattle.entries.specs.Answers.{answer_number, answer_values}
+use Rattle.entries.specs.Answers.{Answer, answer_number, answer_values}
 use Rattle.entries.specs.Promise.{Promise}
 use Rattle.text.specs.Columns.{in_columns}
 use Rattle.text.specs.declared.Program.{Program}

@@ -4,8 +4,8 @@ use mathlib.Core.Path.{◌≡◌, refl}
 use mathlib.Core.Bool.{Bool, true, false}
 use Prim.Native.Nat.{ℕ}
 use native.Mathlib.Omega.{arith}
+use Rattle.std.specs.Prelude.{Ok, Err}
 use Rattle.fields.specs.declared.refusal.Refusal.TheVariants.{AnchorSet}
-use Rattle.fields.specs.Outcomes.{Gives, Refuses}
 use Rattle.formulas.specs.Steps.{dies_out, drop_at_jack, passes_tendon, drop_at_section, slip_loss}
 use Rattle.member.specs.declared.Member.{Member}
 use Rattle.stages.specs.Run.{friction_loss_of, slip_of}
@@ -24,18 +24,18 @@ module _ (m : Member) where
   abbrev passes : Bool
   passes = passes_tendon z d m.path_length m.length
 
-  pub over_the_tendon : dies ≡ false → slip_of m ≡ Gives (slip_loss m.es m.slip m.length)
+  pub over_the_tendon : dies ≡ false → slip_of m ≡ Ok (slip_loss m.es m.slip m.length)
   over_the_tendon not = rw not refl
 
-  pub beyond_the_tendon : dies ≡ true → passes ≡ true → slip_of m ≡ Refuses AnchorSet
+  pub beyond_the_tendon : dies ≡ true → passes ≡ true → slip_of m ≡ Err AnchorSet
   beyond_the_tendon so far = rw (so, far) refl
 
-  pub at_the_section : dies ≡ true → passes ≡ false → slip_of m ≡ Gives (drop_at_section z d)
+  pub at_the_section : dies ≡ true → passes ≡ false → slip_of m ≡ Ok (drop_at_section z d)
   at_the_section so near = rw (so, near) refl
 
   -- ---- a slip that is given
 
-  module _ {slip : ℕ} (given : slip_of m ≡ Gives slip) where
+  module _ {slip : ℕ} (given : slip_of m ≡ Ok slip) where
     pub given_over_the_tendon : dies ≡ false → slip ≡ slip_loss m.es m.slip m.length
     given_over_the_tendon not = let is = over_the_tendon not in cc
 

@@ -1,3 +1,2 @@
 pub mod Run
-pub mod Given
 pub mod Conditions

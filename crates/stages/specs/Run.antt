@@ -1,8 +1,8 @@
 -- The promise rests on it. The losses in their order and the stress that each leaves: document 01, "Steps", and row "stress", with slip
 -- by document 02, W5. At each age the gain follows, and the stress after it: document 02, W1.
-use Rattle.std.specs.Prelude.{ℕ, ◌+◌, ◌-◌, ◌*◌, suc, cond, leb, List, [], ◌∷◌}
+use Rattle.std.specs.Prelude.{ℕ, ◌+◌, ◌-◌, ◌*◌, suc, cond, leb, List, [], ◌∷◌, Ok, Err}
 use Rattle.fields.specs.declared.refusal.Refusal.{Refusal}
-use Rattle.fields.specs.Outcomes.{OrRefusal, Gives, Refuses, onward, Outcome}
+use Rattle.fields.specs.Outcomes.{OrRefusal, onward, Outcome}
 use Rattle.fields.specs.Limits.{least_stress, most_of_strength, hundredths}
 use Rattle.ticks.specs.Ticks.{ticks_per_unit}
 use Rattle.logarithm.specs.Logarithm.{logarithm, service_life}
@@ -13,7 +13,8 @@ use Rattle.formulas.specs.Steps.{friction_loss, dies_out, drop_at_jack, passes_t
 use Rattle.formulas.specs.Steps.{relaxation_loss, moment_stress, concrete_stress, shortening_loss, creep_loss, shrinkage_loss, moment_gain}
 use Rattle.stages.specs.declared.path.Seated.{Seated}
 use Rattle.stages.specs.declared.before.BeforeAges.{BeforeAges}
-use Rattle.fields.specs.Quantities.{Age, Quantities, quantities_read}
+use Rattle.fields.specs.declared.segments.Age.{Age}
+use Rattle.fields.specs.Quantities.{Quantities, quantities_read}
 use Rattle.stages.specs.declared.ends.End.{End}
 use Rattle.stages.specs.declared.intervals.Losses.{Losses}
 use Rattle.stages.specs.declared.intervals.Row.{Row}
@@ -21,7 +22,7 @@ use Rattle.member.specs.Member.{checked_of}
 
 -- what a loss leaves of a stress, or "under 1,000 psi after a loss", also where the loss exceeds the stress
 abbrev pub after : ℕ → ℕ → ℕ → OrRefusal ℕ
-after place stress loss = cond (leb (loss + least_stress) stress) (Gives (stress - loss)) (Refuses (Refusal.Stress place))
+after place stress loss = cond (leb (loss + least_stress) stress) (Ok (stress - loss)) (Err (Refusal.Stress place))
 
 -- "0 before ages, else age's number"
 abbrev pub before_ages : ℕ
@@ -44,8 +45,8 @@ slip_of m =
     let d = friction_loss_of m in
     let z = drop_at_jack d m.es m.slip m.path_length in
     cond (dies_out d m.path_length)
-    (cond (passes_tendon z d m.path_length m.length) (Refuses Refusal.AnchorSet) (Gives (drop_at_section z d)))
-    (Gives (slip_loss m.es m.slip m.length))
+    (cond (passes_tendon z d m.path_length m.length) (Err Refusal.AnchorSet) (Ok (drop_at_section z d)))
+    (Ok (slip_loss m.es m.slip m.length))
 
 -- friction, slip and the stress after both; 12 is "checked at the slip ahead of number 7"
 unfoldable pub seated : Member → OrRefusal Seated
@@ -53,7 +54,7 @@ seated m =
     onward (after before_ages (jacked m) (friction_loss_of m)) (λ rubbed.
     onward (slip_of m) (λ slip.
     onward (after before_ages rubbed slip) (λ stress.
-    Gives (record { friction = friction_loss_of m; slip = slip; stress = stress }))))
+    Ok (record { friction = friction_loss_of m; slip = slip; stress = stress }))))
 
 -- ---- deflector, early relaxation and shortening
 
@@ -91,7 +92,7 @@ begun_of m =
     onward (after before_ages anchored.stress (deflector_of m)) (λ deflected.
     onward (after before_ages deflected (early_relaxation_of m deflected)) (λ relaxed.
     onward (after before_ages relaxed (shortening_of m relaxed)) (λ shortened.
-    Gives (record {
+    Ok (record {
       friction = anchored.friction;
       slip = anchored.slip;
       deflector = deflector_of m;
@@ -137,8 +138,8 @@ gain_between m start end = moment_gain m.es m.ec (end.g - start.g)
 -- what a gain makes of a stress, or "11 when the stress after a gain passes 0.80 F", unrounded; "place the age's number"
 abbrev pub lifted : ℕ → ℕ → ℕ → ℕ → OrRefusal ℕ
 lifted number ultimate_strength stress gain =
-    cond (leb (hundredths * (stress + gain)) (most_of_strength * ultimate_strength * ticks_per_unit)) (Gives (stress + gain))
-    (Refuses (Refusal.Overstress number))
+    cond (leb (hundredths * (stress + gain)) (most_of_strength * ultimate_strength * ticks_per_unit)) (Ok (stress + gain))
+    (Err (Refusal.Overstress number))
 
 -- "creep, shrinkage, relaxation, stress per age", and the gain "as a fifth per age, after the stress, which is that after the gain"
 abbrev pub row_of : Losses → ℕ → ℕ → Row
@@ -157,7 +158,7 @@ row_between m number stress start end =
     let gain = gain_between m start end in
     onward (after number stress (together losses)) (λ left.
     onward (lifted number m.ultimate_strength left gain) (λ risen.
-    Gives (row_of losses risen gain)))
+    Ok (row_of losses risen gain)))
 
 -- what all ages give: their rows, and the stress after the last
 pub record Aged : Type 0 where
@@ -170,12 +171,12 @@ behind row later = record { rows = row ∷ later.rows; last = later.last }
 -- ages that follow `passed` others, from the stress and the end at which the first interval starts. An age's moment stands at its own
 -- end, so that it counts in the losses of later intervals alone, and in the gain at its age.
 unfoldable pub aged_from : Member → ℕ → ℕ → End → List Age → OrRefusal Aged
-aged_from m passed stress start [] = Gives (record { rows = []; last = stress })
+aged_from m passed stress start [] = Ok (record { rows = []; last = stress })
 aged_from m passed stress start (age ∷ ages) =
     let end = end_at m (start.moments + age.moment) age.hour in
     onward (row_between m (suc passed) stress start end) (λ row.
     onward (aged_from m (suc passed) row.stress end ages) (λ later.
-    Gives (behind row later)))
+    Ok (behind row later)))
 
 -- what an accepted run gives: the losses before the ages, the rows of the report and the last stress
 pub record Report : Type 0 where
@@ -189,7 +190,7 @@ unfolding begun_of aged_from
 member_result m ages =
     onward (begun_of m) (λ before.
     onward (aged_from m 0 before.stress (transfer_end m) ages) (λ aged.
-    Gives (record { before = before; rows = aged.rows; last = aged.last })))
+    Ok (record { before = before; rows = aged.rows; last = aged.last })))
 
 -- what quantities give, with room for so many numbers in report and scratch
 abbrev pub result_of : Quantities → ℕ → ℕ → OrRefusal Report

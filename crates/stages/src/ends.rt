@@ -1,11 +1,10 @@
 // The ends of the intervals, read once each: one interval's end is the next one's start.
-ghost use Rattle.std.specs.Prelude.{◌≡◌};
-ghost use Rattle.stages.specs.Conditions.{EndFits};
+ghost use Rattle.std.specs.Prelude.{◌≡◌, ◌≤◌};
+ghost use Rattle.fields.specs.Limits.{most_moment};
 ghost use Rattle.stages.specs.Run.{end_at};
 
+use crate::bounded::BoundedMember;
 use coefficient::clocks::SERVICE_LIFE;
-use logarithm::ENTRIES;
-use member::Member;
 
 // What stands at an end of an interval: the moments so far and g, their stress; the shares of creep and shrinkage; relaxation's
 // logarithm.
@@ -18,14 +17,15 @@ pub struct End {
     pub logarithm: u64,
 }
 
-pub fn end_at(m: Member, thresholds: &[u32; ENTRIES], moments: u64, hour: u32) -> End
-    requires { EndFits m thresholds.now moments }
-    ensures { result ≡ end_at m moments hour }
+pub fn end_at(m: BoundedMember, moments: u64, hour: u32) -> End
+    requires { moments ≤ most_moment }
+    ensures { result ≡ end_at m.member moments hour }
 {
-    let hours = m.hours;
+    let member = m.member;
+    let hours = member.hours;
     End {
         moments,
-        g: formulas::moment_stress(moments, m.eccentricity, m.inertia),
+        g: formulas::moment_stress(moments, member.eccentricity, member.inertia),
         creep: coefficient::creep_share(
             hours.since_transfer(SERVICE_LIFE),
             hours.since_transfer(hour),
@@ -34,6 +34,6 @@ pub fn end_at(m: Member, thresholds: &[u32; ENTRIES], moments: u64, hour: u32) -
             hours.since_curing(SERVICE_LIFE),
             hours.since_curing(hour),
         ),
-        logarithm: coefficient::relaxation_logarithm(thresholds, hours.since_tensioning(hour)),
+        logarithm: coefficient::relaxation_logarithm(hours.since_tensioning(hour)),
     }
 }

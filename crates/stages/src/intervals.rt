@@ -1,13 +1,21 @@
 // The losses of an interval and the gain at its end, from its two ends, and the row of the age at which it ends.
-ghost use Rattle.std.specs.Prelude.{◌≡◌};
+ghost use Rattle.std.specs.Prelude.{◌≡◌, ◌<◌};
+ghost use Rattle.formulas.specs.Conditions.{stress_limit};
 ghost use Rattle.stages.specs.Run.{losses_between, gain_between, row_between};
-ghost use Rattle.stages.specs.Conditions.{GainedFits, PassFits};
-ghost use Rattle.stages.specs.Given.{row_given};
+ghost use Rattle.stages.specs.Conditions.{EndBounded};
 
+use crate::bounded::BoundedMember;
 use crate::ends::End;
 use crate::stress;
-use fields::refusal::{NumberOrRefusal, Refusal};
-use member::Member;
+use fields::refusal::Refusal;
+
+// From one end to the next. What stands at the later end is so bounded that no product of the interval's losses wraps.
+#[derive(Clone, Copy)]
+pub struct Interval {
+    pub start: End,
+    pub end: End,
+    pub ghost bounded: { EndBounded end },
+}
 
 #[derive(Clone, Copy)]
 pub struct Losses {
@@ -26,25 +34,26 @@ pub struct Row {
     pub gain: u64,
 }
 
-#[derive(Clone, Copy)]
-pub enum Passed {
-    By(Row),
-    Refused(Refusal),
-}
-
-// The losses of an interval, from the stress at its start and from its two ends.
-fn losses_between(m: Member, stress: u64, start: End, end: End) -> Losses
-    requires { PassFits m stress end }
-    ensures { result ≡ losses_between m stress start end }
+// The losses of an interval, from the stress at its start.
+fn losses_between(m: BoundedMember, stress: u64, interval: Interval) -> Losses
+    requires { stress < stress_limit }
+    ensures { result ≡ losses_between m.member stress interval.start interval.end }
 {
-    let steel = m.steel;
-    let c = formulas::concrete_stress(stress, m.kappa, start.g);
-    let creep_share = formulas::difference(end.creep, start.creep);
-    let shrinkage_share = formulas::difference(end.shrinkage, start.shrinkage);
-    let logarithms = formulas::difference(end.logarithm, start.logarithm);
-    let creep = formulas::creep_loss(m.creep, creep_share, c);
-    let shrinkage = formulas::shrinkage_loss(m.shrinkage, shrinkage_share);
-    let relaxation = formulas::relaxation_loss(steel, m.ultimate_strength, stress, logarithms);
+    let member = m.member;
+    let start = interval.start;
+    let end = interval.end;
+    let c = formulas::concrete_stress(stress, member.kappa, start.g);
+    let creep_share = end.creep.saturating_sub(start.creep);
+    let shrinkage_share = end.shrinkage.saturating_sub(start.shrinkage);
+    let logarithms = end.logarithm.saturating_sub(start.logarithm);
+    let creep = formulas::creep_loss(member.creep, creep_share, c);
+    let shrinkage = formulas::shrinkage_loss(member.shrinkage, shrinkage_share);
+    let relaxation = formulas::relaxation_loss(
+        member.steel,
+        member.ultimate_strength,
+        stress,
+        logarithms,
+    );
     Losses {
         creep,
         shrinkage,
@@ -53,34 +62,32 @@ fn losses_between(m: Member, stress: u64, start: End, end: End) -> Losses
 }
 
 // The gain from the moment that is added at an interval's end.
-fn gain_between(m: Member, start: End, end: End) -> u64
-    requires { GainedFits m end }
-    ensures { result ≡ gain_between m start end }
+fn gain_between(m: BoundedMember, interval: Interval) -> u64
+    ensures { result ≡ gain_between m.member interval.start interval.end }
 {
-    let rise = formulas::difference(end.g, start.g);
-    formulas::moment_gain(m.es, m.ec, rise)
+    let member = m.member;
+    let start = interval.start;
+    let end = interval.end;
+    let rise = end.g.saturating_sub(start.g);
+    formulas::moment_gain(member.es, member.ec, rise)
 }
 
 // All three losses leave the stress together, and the gain follows. The interval ends at the age of this number.
-pub fn pass(m: Member, number: u64, stress: u64, start: End, end: End) -> Passed
-    requires { PassFits m stress end }
-    ensures { row_given result ≡ row_between m number stress start end }
+pub fn pass(m: BoundedMember, number: u64, stress: u64, interval: Interval) -> Result<Row, Refusal>
+    requires { stress < stress_limit }
+    ensures { result ≡ row_between m.member number stress interval.start interval.end }
 {
-    let losses = losses_between(m, stress, start, end);
+    let losses = losses_between(m, stress, interval);
     let together = losses.creep + losses.shrinkage + losses.relaxation;
-    let gain = gain_between(m, start, end);
-    let left = match stress::after(number, stress, together) {
-        NumberOrRefusal::Number(left) => left,
-        NumberOrRefusal::Refused(refusal) => return Passed::Refused(refusal),
-    };
-    match stress::lifted(number, m.ultimate_strength, left, gain) {
-        NumberOrRefusal::Number(risen) => Passed::By(Row {
-            creep: losses.creep,
-            shrinkage: losses.shrinkage,
-            relaxation: losses.relaxation,
-            stress: risen,
-            gain,
-        }),
-        NumberOrRefusal::Refused(refusal) => Passed::Refused(refusal),
-    }
+    let gain = gain_between(m, interval);
+    let left = stress::after(number, stress, together)?;
+    let member = m.member;
+    let risen = stress::lifted(number, member.ultimate_strength, left, gain)?;
+    Ok(Row {
+        creep: losses.creep,
+        shrinkage: losses.shrinkage,
+        relaxation: losses.relaxation,
+        stress: risen,
+        gain,
+    })
 }

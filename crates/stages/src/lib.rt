@@ -4,6 +4,7 @@
 #![tactic(auto)]
 
 pub mod before;
+pub mod bounded;
 pub mod ends;
 pub mod intervals;
 pub mod path;

@@ -1,14 +1,11 @@
 // Friction along the path and slip at the anchor: a stage of their own, from the jacking stress.
 ghost use Rattle.std.specs.Prelude.{◌≡◌};
-ghost use Rattle.fields.specs.Given.{number_given};
-ghost use Rattle.stages.specs.Run.{slip_of, seated};
-ghost use Rattle.stages.specs.Conditions.{Bounded, SectionSlipFits};
-ghost use Rattle.stages.specs.Given.{seated_given};
+ghost use Rattle.stages.specs.Run.{friction_loss_of, slip_of, seated};
 
+use crate::bounded::BoundedMember;
 use crate::stress;
-use fields::refusal::{NumberOrRefusal, Refusal};
+use fields::refusal::Refusal;
 use formulas::anchor;
-use member::Member;
 use ticks::TICKS_PER_UNIT;
 
 // Friction, slip and the stress after both, in ticks.
@@ -19,48 +16,36 @@ pub struct Seated {
     pub stress: u64,
 }
 
-#[derive(Clone, Copy)]
-pub enum Seating {
-    Seats(Seated),
-    Refused(Refusal),
-}
-
 // What slip takes at the section, friction having taken this much; or the refusal of a slip that reaches beyond the tendon's length.
-fn slip_at_section(m: Member, friction: u64) -> NumberOrRefusal
-    requires { SectionSlipFits m friction }
-    ensures { number_given result ≡ slip_of m }
+fn slip_at_section(m: BoundedMember, friction: u64) -> Result<u64, Refusal>
+    requires { friction ≡ friction_loss_of m.member }
+    ensures { result ≡ slip_of m.member }
 {
-    if anchor::dies_out(friction, m.path_length) {
-        let drop = anchor::drop_at_jack(friction, m.es, m.slip, m.path_length);
-        if anchor::passes_tendon(drop, friction, m.path_length, m.length) {
-            return NumberOrRefusal::Refused(Refusal::AnchorSet);
-        }
-        return NumberOrRefusal::Number(anchor::drop_at_section(drop, friction));
+    let member = m.member;
+    if !anchor::dies_out(friction, member.path_length) {
+        return Ok(formulas::slip_loss(member.es, member.slip, member.length));
     }
-    NumberOrRefusal::Number(formulas::slip_loss(m.es, m.slip, m.length))
+    let drop = anchor::drop_at_jack(friction, member.es, member.slip, member.path_length);
+    if anchor::passes_tendon(drop, friction, member.path_length, member.length) {
+        return Err(Refusal::AnchorSet);
+    }
+    Ok(anchor::drop_at_section(drop, friction))
 }
 
 // The stress is looked at after each of the two losses, and how far the slip reaches before the second.
-pub fn seat(m: Member) -> Seating
-    requires { Bounded m }
-    ensures { seated_given result ≡ seated m }
+#[tactic(auto, unfolding(crate::specs::Run::seated))]
+pub fn seat(m: BoundedMember) -> Result<Seated, Refusal>
+    ensures { result ≡ seated m.member }
 {
-    let jacked = m.jacking_stress * TICKS_PER_UNIT;
-    let friction = formulas::friction_loss(jacked, m.friction);
-    let rubbed = match stress::after(stress::BEFORE_AGES, jacked, friction) {
-        NumberOrRefusal::Number(rubbed) => rubbed,
-        NumberOrRefusal::Refused(refusal) => return Seating::Refused(refusal),
-    };
-    let slip = match slip_at_section(m, friction) {
-        NumberOrRefusal::Number(slip) => slip,
-        NumberOrRefusal::Refused(refusal) => return Seating::Refused(refusal),
-    };
-    match stress::after(stress::BEFORE_AGES, rubbed, slip) {
-        NumberOrRefusal::Number(stress) => Seating::Seats(Seated {
-            friction,
-            slip,
-            stress,
-        }),
-        NumberOrRefusal::Refused(refusal) => Seating::Refused(refusal),
-    }
+    let member = m.member;
+    let jacked = member.jacking_stress * TICKS_PER_UNIT;
+    let friction = formulas::friction_loss(jacked, member.friction);
+    let rubbed = stress::after(stress::BEFORE_AGES, jacked, friction)?;
+    let slip = slip_at_section(m, friction)?;
+    let stress = stress::after(stress::BEFORE_AGES, rubbed, slip)?;
+    Ok(Seated {
+        friction,
+        slip,
+        stress,
+    })
 }

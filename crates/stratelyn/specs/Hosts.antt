@@ -1,9 +1,9 @@
 -- The promise rests on it. What a C host gets: document 01, "The card", from "Each entry is also offered to C hosts" on. The number, the
 -- values and the rows are those of the native promise, in a host's bytes.
-use Rattle.std.specs.Prelude.{ℕ, ◌≤◌, ◌<◌, ◌≡◌, List, length}
+use Rattle.std.specs.Prelude.{ℕ, ◌≤◌, ◌<◌, ◌≡◌, List, length, Ok, Err}
 use Rattle.std.specs.Float.{binary64}
 use Rattle.std.specs.Float.Ieee.{to_bits, of_bits}
-use Rattle.fields.specs.Outcomes.{Outcome, OrRefusal, Gives, Refuses}
+use Rattle.fields.specs.Outcomes.{Outcome, OrRefusal}
 use Rattle.stages.specs.Run.{Report, result_read}
 use Rattle.entries.specs.Answers.{IsExactly, double_of, answer_of, answer_number, answer_values, numbers_written}
 use Rattle.entries.specs.Promise.{CloseIfAccepted}
@@ -11,8 +11,8 @@ use Rattle.numbers.specs.Numbers.{room, written}
 
 -- the reply's last number, read as a double's bits, is the last stress's double
 abbrev pub ReadsBack : OrRefusal Report → Type 0
-ReadsBack (Gives report) = IsExactly (of_bits binary64 (to_bits binary64 (double_of report.last))) report.last
-ReadsBack (Refuses refusal) = Unit {0}
+ReadsBack (Ok report) = IsExactly (of_bits binary64 (to_bits binary64 (double_of report.last))) report.last
+ReadsBack (Err refusal) = Unit {0}
 
 -- "The refusal number (0 if accepted) is returned. A reply slice takes" the values, "bytes past 64 are unchanged"; the report takes the
 -- rows, "odd bytes at a buffer's end are unchanged". The buffers as they are and as they were

@@ -7,11 +7,8 @@ ghost use Rattle.stratelyn.specs.Hosts.{Served};
 
 mod run;
 
-use fields::limits::MOST_FIELDS;
-use run::REPLY_BYTES;
-
-// What a reply slice that is too short gives.
-const REPLY_TOO_SHORT: u64 = 10;
+use card::Cards;
+use numbers::ListBytes;
 
 // The run of a card, as bytes.
 pub fn stratelyn_run_card(
@@ -23,12 +20,7 @@ pub fn stratelyn_run_card(
     ensures { Served (card_outcome card.now) result report.new report.old
         scratch.new scratch.old reply.new reply.old }
 {
-    if reply.len() < REPLY_BYTES {
-        return REPLY_TOO_SHORT;
-    }
-    let mut fields = [0u64; MOST_FIELDS];
-    let reading = card::read_card(card, &mut fields);
-    run::serve(reading, &fields, scratch.len(), report, reply)
+    run::serve::<Cards>(card, report, scratch, reply)
 }
 
 // The run of a list of doubles, by their bits.
@@ -41,10 +33,5 @@ pub fn stratelyn_run_list(
     ensures { Served (bytes_outcome list.now) result report.new report.old
         scratch.new scratch.old reply.new reply.old }
 {
-    if reply.len() < REPLY_BYTES {
-        return REPLY_TOO_SHORT;
-    }
-    let mut fields = [0u64; MOST_FIELDS];
-    let reading = numbers::read_list_bytes(list, &mut fields);
-    run::serve(reading, &fields, scratch.len(), report, reply)
+    run::serve::<ListBytes>(list, report, scratch, reply)
 }

@@ -1,5 +1,4 @@
 pub mod Rows
-mod Arms
 mod Order
 mod Readings
 pub mod Weights

@@ -2,26 +2,18 @@
 -- them; rows behind one that x is before do not matter, and past the last row the walk goes on from it. By recursion along the rows.
 -- That rows stand in order is a test that computes. Assumes nothing.
 use mathlib.Core.Path.{◌≡◌, refl}
-use mathlib.Core.Bool.{Bool, false, cond}
+use mathlib.Core.Bool.{cond}
 use mathlib.Core.List.{List, [], ◌∷◌, ◌++◌}
 use Prim.Native.Nat.{ℕ, zero, suc, ◌≤◌, ◌<◌}
 use native.Mathlib.Nat.{le_refl, le_trans}
 use native.Mathlib.Omega.{arith}
-use lib.Dec.{T, leb, ltb, leb→le}
+use lib.Dec.{T, ltb, leb→le}
 use lib.ListN.{length}
 use borrow.Author.Tests.{lt-ltb, le-ltb}
 use Rattle.tables.specs.declared.Row.{Row}
 use Rattle.tables.specs.Tables.{at, at_row, on_line, along, reading}
-use Rattle.tables.specs.Conditions.{row_at}
-use Rattle.tables.proofs.Rows.{joined_from, here, after, placed, Passed, last_from, last_of}
-
-abbrev no_later : Row → Row → Bool
-no_later low high = leb (at low) (at high)
-
--- there are rows, and none stands behind the next one
-abbrev pub ordered : List Row → Bool
-ordered [] = false
-ordered (first ∷ rows) = joined_from no_later first rows
+use Rattle.tables.specs.Conditions.{row_at, joined_from, no_later, ordered}
+use Rattle.tables.proofs.Rows.{here, after, placed, Passed, last_from, last_of}
 
 not_later : (low high : Row) (rows : List Row) → T (joined_from no_later low (high ∷ rows)) → at low ≤ at high
 not_later low high rows t = leb→le (at low) (at high) (here no_later low high rows t)

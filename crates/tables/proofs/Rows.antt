@@ -4,16 +4,19 @@
 use mathlib.Core.Path.{◌≡◌, refl}
 use mathlib.Core.Bool.{Bool, true, false, ◌&&◌, cond}
 use mathlib.Core.List.{List, [], ◌∷◌}
-use Prim.Native.Nat.{ℕ, ◌-◌, ◌*◌, ◌/◌, ◌%◌, ◌≤◌, ◌<◌}
+use Prim.Native.Nat.{ℕ, zero, suc, ◌-◌, ◌*◌, ◌/◌, ◌%◌, ◌≤◌, ◌<◌}
 use native.Mathlib.Nat.{le_refl, le_trans, mul-le-mul_left, mul_assoc, mul-zero}
 use native.Mathlib.Nat.{mul-div-mul_right, div-mul-le_self, le-div_iff_mul-le}
 use native.Mathlib.Nat.{dvd_of_mod-eq-zero, dvd-mul_right_of_dvd, mod-eq-zero_of_dvd}
 use native.Mathlib.Omega.{arith}
 use lib.Dec.{T, leb, ltb, eqb, leb→le, eqb→eq, lit<}
+use lib.ListN.{length}
 use lib.Ieee.Fits.{and_l, and_r}
 use borrow.Author.Tests.{ltb-true, ltb-false, le-ltb}
+use Rattle.std.proofs.lemmas.Bool.{cond_both}
 use Rattle.tables.specs.declared.Row.{Row}
 use Rattle.tables.specs.Tables.{hundred, row, at, hundredths, at_row, weighed, on_line, along, reading}
+use Rattle.tables.specs.Conditions.{row_at, joined_from}
 use Rattle.tables.specs.Exact.{left_along, left_over, Exact}
 use Rattle.tables.proofs.Weights.{weighed_most, weighed_least, weighed_rises}
 
@@ -21,11 +24,6 @@ use Rattle.tables.proofs.Weights.{weighed_most, weighed_least, weighed_rises}
 abbrev pub every : (Row → Bool) → List Row → Bool
 every test [] = true
 every test (r ∷ rows) = test r && every test rows
-
--- the test passes at each two neighbouring rows, from `low` on
-abbrev pub joined_from : (Row → Row → Bool) → Row → List Row → Bool
-joined_from test low [] = true
-joined_from test low (high ∷ rows) = test low high && joined_from test high rows
 
 -- the test passes at each two neighbouring rows
 abbrev pub joined : (Row → Row → Bool) → List Row → Bool
@@ -39,14 +37,9 @@ module _ (test : Row → Row → Bool) (low high : Row) (rows : List Row) (t : T
   pub after : T (joined_from test high rows)
   after = and_r (test low high) (joined_from test high rows) t
 
--- what holds of either choice in its own case holds of the choice
-chosen : (P : ℕ → Type 0) (b : Bool) (v w : ℕ) → (b ≡ true → P v) → (b ≡ false → P w) → P (cond b v w)
-chosen P true v w p q = p refl
-chosen P false v w p q = q refl
-
--- the same of the choice by whether x lies before a place
+-- what holds of either choice by whether x lies before a place, in its own case, holds of the choice
 pub placed : (P : ℕ → Type 0) (x place v w : ℕ) → (x < place → P v) → (place ≤ x → P w) → P (cond (ltb x place) v w)
-placed P x place v w p q = chosen P (ltb x place) v w (λ t. p (ltb-true x place t)) (λ f. q (ltb-false x place f))
+placed P x place v w p q = cond_both (ltb x place) v w P (λ t. p (ltb-true x place t)) (λ f. q (ltb-false x place f))
 
 -- Exact readings.
 
@@ -214,6 +207,16 @@ last_from low (high ∷ rows) = last_from high rows
 abbrev pub last_of : List Row → Row
 last_of [] = row 0 0
 last_of (first ∷ rows) = last_from first rows
+
+last_from_at : (low : Row) (rows : List Row) (place : ℕ) → suc place ≡ length (low ∷ rows) → row_at (low ∷ rows) place ≡ last_from low rows
+last_from_at low [] zero e = refl
+last_from_at low [] (suc place) e = absurd (omega arith)
+last_from_at low (high ∷ rows) zero e = absurd (omega arith)
+last_from_at low (high ∷ rows) (suc place) e = last_from_at high rows place (omega arith)
+
+pub last_at : (rows : List Row) (place : ℕ) → suc place ≡ length rows → row_at rows place ≡ last_of rows
+last_at [] place e = absurd (omega arith)
+last_at (first ∷ rows) place e = last_from_at first rows place e
 
 along_past : (unit x : ℕ) (low : Row) (rows : List Row) → Passed x rows → along unit x low rows ≡ at_row unit (last_from low rows)
 unfolding along

@@ -1,10 +1,9 @@
 -- The weighed sum of two rows' values, at an x between the rows: over the distance of the rows it is a mean of the two values, so
 -- it lies between them, and does not fall with x where the second is not the smaller. Assumes nothing.
 use mathlib.Core.Path.{◌≡◌}
-use Prim.Native.Nat.{ℕ, ◌+◌, ◌-◌, ◌*◌, ◌^◌, ◌≤◌, ◌<◌}
-use native.Mathlib.Nat.{mul-add, mul-le-mul, mul-le-mul_right, le-pred_of_lt, lt_of_le_of_lt}
+use Prim.Native.Nat.{ℕ, ◌+◌, ◌-◌, ◌*◌, ◌≤◌}
+use native.Mathlib.Nat.{mul-add, mul-le-mul_right}
 use native.Mathlib.Omega.{arith}
-use lib.Dec.{lit<}
 use Rattle.tables.specs.declared.Row.{Row}
 use Rattle.tables.specs.Tables.{at, hundredths, weighed}
 
@@ -28,10 +27,6 @@ module _ (x : ℕ) (low high : Row) (from : at low ≤ x) where
         omega
         (arith, by_way least (at low) x (at high) from to, mul-le-mul_right (at high - x) p, mul-le-mul_right (x - at low) q)
 
-    -- hundredths are bytes, and places have 32 bits
-    pub weighed_fits : hundredths low < 2 ^ 8 → hundredths high < 2 ^ 8 → at high < 2 ^ 32 → weighed x low high < 2 ^ 40
-    weighed_fits l h p = omega (arith, weighed_most 255 (omega arith) (omega arith))
-
   pub weighed_rises : (y : ℕ) → x ≤ y → y ≤ at high → hundredths low ≤ hundredths high → weighed x low high ≤ weighed y low high
   weighed_rises y on to h =
       omega (
@@ -40,6 +35,3 @@ module _ (x : ℕ) (low high : Row) (from : at low ≤ x) where
         by_way (hundredths high) (at low) x y from on,
         mul-le-mul_right (y - x) h,
       )
-
-pub product_fits : {unit value : ℕ} → unit ≤ 2 ^ 24 → value < 2 ^ 40 → unit * value < 2 ^ 64
-product_fits u v = lt_of_le_of_lt (mul-le-mul u (le-pred_of_lt v)) (lit< tt)

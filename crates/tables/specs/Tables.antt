@@ -1,9 +1,7 @@
 -- The promise rests on it. The rows of document 01, "Coefficients", as they stand there, and a table read between them.
 use Rattle.std.specs.Prelude.{ℕ, ◌+◌, ◌-◌, ◌*◌, ◌/◌, cond, List, [], ◌∷◌, ◌++◌, ltb}
 use Rattle.tables.specs.declared.Row.{Row}
-use Rattle.ticks.specs.Ticks.{ticks_per_unit, T}
-use Rattle.tables.specs.declared.factors.Factor.{Factor}
-use Rattle.tables.specs.declared.shares.Share.{Share}
+use Rattle.ticks.specs.Ticks.{ticks_per_unit}
 
 -- The papers print a coefficient with two decimals.
 abbrev pub hundred : ℕ
@@ -61,22 +59,13 @@ ssf_rows = inches 1 104 ∷ inches 2 96 ∷ inches 3 86 ∷ inches 4 77 ∷ inch
 abbrev pub mcf_rows : List Row
 mcf_rows = days 3 114 ∷ days 5 107 ∷ days 7 100 ∷ days 10 96 ∷ days 20 84 ∷ days 30 72 ∷ days 40 60 ∷ []
 
--- the rows of a factor
-unfoldable pub rows_of : Factor → List Row
-rows_of Factor.Scf = scf_rows
-rows_of Factor.Ssf = ssf_rows
-rows_of Factor.Mcf = mcf_rows
+-- "Whole 102,400ths, exact.", of SCF and SSF, which volume/surface decides
+abbrev pub size_unit : ℕ
+size_unit = 102400
 
--- "Whole 102,400ths, exact." for SCF and SSF; "Whole 72,000ths, exact." for MCF
-abbrev pub unit_of : Factor → ℕ
-unit_of Factor.Scf = 102400
-unit_of Factor.Ssf = 102400
-unit_of Factor.Mcf = 72000
-
--- a factor at x
-unfoldable pub factor_reading : Factor → ℕ → ℕ
-unfolding reading rows_of
-factor_reading factor x = reading (unit_of factor) (rows_of factor) x
+-- "Whole 72,000ths, exact.", of MCF
+abbrev pub mcf_unit : ℕ
+mcf_unit = 72000
 
 -- "Creep share, days 0 1 2 5 7 10 20 30 60 90 180 365: 0 .08 .15 .18 .23 .24 .30 .35 .45 .51 .61 .74"
 abbrev pub creep_day_rows : List Row
@@ -90,16 +79,12 @@ shrinkage_day_rows =
     days 0 0 ∷ days 1 8 ∷ days 3 15 ∷ days 5 20 ∷ days 7 22 ∷ days 10 27 ∷ days 20 36 ∷ days 30 42 ∷ days 60 55
     ∷ days 90 62 ∷ days 180 68 ∷ days 365 86 ∷ []
 
--- the rows of a share at days
-abbrev pub day_rows : Share → List Row
-day_rows Share.Creep = creep_day_rows
-day_rows Share.Shrinkage = shrinkage_day_rows
-
 -- "Both reach 1.00 at hour 438,000 of the member", where the clock reads `life`.
-abbrev pub share_rows : Share → ℕ → List Row
-share_rows share life = day_rows share ++ (row life 100 ∷ [])
+abbrev pub to_one : List Row → ℕ → List Row
+to_one day_rows life = day_rows ++ (row life 100 ∷ [])
 
--- a share at x, "Rounded down to 1/T"
-unfoldable pub share_reading : Share → ℕ → ℕ → ℕ
-unfolding reading
-share_reading share life x = reading T (share_rows share life) x
+abbrev pub creep_rows : ℕ → List Row
+creep_rows life = to_one creep_day_rows life
+
+abbrev pub shrinkage_rows : ℕ → List Row
+shrinkage_rows life = to_one shrinkage_day_rows life

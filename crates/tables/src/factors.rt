@@ -1,117 +1,80 @@
 // SCF, SSF and MCF, each read once for a member: along the rows from the first one on.
-ghost use Rattle.std.specs.Prelude.{◌≡◌, ◌<◌, suc, length};
-ghost use Rattle.tables.specs.Tables.{scf_rows, ssf_rows, mcf_rows, rows_of, unit_of, factor_reading};
-ghost use Rattle.tables.specs.Conditions.{row_at};
+ghost use Rattle.std.specs.Prelude.{◌≡◌, ◌≤◌};
+ghost use Rattle.ticks.specs.Ticks.{T};
+ghost use Rattle.tables.specs.Tables.{reading, scf_rows, ssf_rows, mcf_rows, size_unit, mcf_unit};
 
 use crate::{DAY, Row, at_row, on_line};
 use ticks::TICKS_PER_UNIT;
 
-#[derive(Clone, Copy)]
-pub enum Factor {
-    Scf,
-    Ssf,
-    Mcf,
-}
-
 const INCH: u32 = TICKS_PER_UNIT as u32;
 
 // What 1.00 reads of SCF and SSF, and of MCF.
-const FACTOR_UNIT: u64 = 102_400;
+const SIZE_UNIT: u64 = 102_400;
 
 pub const MCF_UNIT: u64 = 72_000;
 
-fn scf_row(place: u32) -> Row
-    requires { place < length scf_rows }
-    ensures { result ≡ row_at scf_rows place }
-{
-    match place {
-        0 => Row(INCH, 105),
-        1 => Row(2 * INCH, 96),
-        2 => Row(3 * INCH, 87),
-        3 => Row(4 * INCH, 77),
-        _ => Row(5 * INCH, 68),
-    }
-}
+static SCF: [Row; 5] = [
+    Row(INCH, 105),
+    Row(2 * INCH, 96),
+    Row(3 * INCH, 87),
+    Row(4 * INCH, 77),
+    Row(5 * INCH, 68),
+];
 
-fn ssf_row(place: u32) -> Row
-    requires { place < length ssf_rows }
-    ensures { result ≡ row_at ssf_rows place }
-{
-    match place {
-        0 => Row(INCH, 104),
-        1 => Row(2 * INCH, 96),
-        2 => Row(3 * INCH, 86),
-        3 => Row(4 * INCH, 77),
-        4 => Row(5 * INCH, 69),
-        _ => Row(6 * INCH, 60),
-    }
-}
+static SSF: [Row; 6] = [
+    Row(INCH, 104),
+    Row(2 * INCH, 96),
+    Row(3 * INCH, 86),
+    Row(4 * INCH, 77),
+    Row(5 * INCH, 69),
+    Row(6 * INCH, 60),
+];
 
-fn mcf_row(place: u32) -> Row
-    requires { place < length mcf_rows }
-    ensures { result ≡ row_at mcf_rows place }
-{
-    match place {
-        0 => Row(3 * DAY, 114),
-        1 => Row(5 * DAY, 107),
-        2 => Row(7 * DAY, 100),
-        3 => Row(10 * DAY, 96),
-        4 => Row(20 * DAY, 84),
-        5 => Row(30 * DAY, 72),
-        _ => Row(40 * DAY, 60),
-    }
-}
+static MCF: [Row; 7] = [
+    Row(3 * DAY, 114),
+    Row(5 * DAY, 107),
+    Row(7 * DAY, 100),
+    Row(10 * DAY, 96),
+    Row(20 * DAY, 84),
+    Row(30 * DAY, 72),
+    Row(40 * DAY, 60),
+];
 
-fn row_at(factor: Factor, place: u32) -> Row
-    requires { place < length (rows_of factor) }
-    ensures { result ≡ row_at (rows_of factor) place }
+// A factor at x, by its rows: on the line between the two rows that x lies between; at the last row past it.
+fn factor(unit: u64, rows: &[Row], x: u32) -> u64
+    requires { unit ≤ T }
+    ensures { result ≡ reading unit rows.now x }
 {
-    match factor {
-        Factor::Scf => scf_row(place),
-        Factor::Ssf => ssf_row(place),
-        Factor::Mcf => mcf_row(place),
+    let Some((first, rest)) = rows.split_first() else {
+        return 0;
+    };
+    if x < first.0 {
+        return at_row(unit, *first);
     }
-}
-
-fn last_place(factor: Factor) -> u32
-    ensures { suc result ≡ length (rows_of factor) }
-{
-    match factor {
-        Factor::Scf => 4,
-        Factor::Ssf => 5,
-        Factor::Mcf => 6,
-    }
-}
-
-// What 1.00 reads.
-fn unit_of(factor: Factor) -> u64
-    ensures { result ≡ unit_of factor }
-{
-    match factor {
-        Factor::Scf => FACTOR_UNIT,
-        Factor::Ssf => FACTOR_UNIT,
-        Factor::Mcf => MCF_UNIT,
-    }
-}
-
-// On the line between the two rows that x lies between; at the last row past it.
-pub fn reading(factor: Factor, x: u32) -> u64
-    ensures { result ≡ factor_reading factor x }
-{
-    let unit = unit_of(factor);
-    let last = last_place(factor);
-    let mut low = row_at(factor, 0);
-    if x < low.0 {
-        return at_row(unit, low);
-    }
-    let mut place = 0u32;
-    while place < last {
-        place += 1;
-        let high = row_at(factor, place);
+    let mut low = *first;
+    for high in rest {
         if x < high.0 {
-            return on_line(unit, x, low, high);
+            return on_line(unit, x, low, *high);
         }
-        low = high;
+        low = *high;
     }
     at_row(unit, low)
+}
+
+pub fn scf(volume_to_surface: u32) -> u64
+    ensures { result ≡ reading size_unit scf_rows volume_to_surface }
+{
+    factor(SIZE_UNIT, &SCF, volume_to_surface)
+}
+
+pub fn ssf(volume_to_surface: u32) -> u64
+    ensures { result ≡ reading size_unit ssf_rows volume_to_surface }
+{
+    factor(SIZE_UNIT, &SSF, volume_to_surface)
+}
+
+pub fn mcf(transfer: u32) -> u64
+    ensures { result ≡ reading mcf_unit mcf_rows transfer }
+{
+    factor(MCF_UNIT, &MCF, transfer)
 }

@@ -1,11 +1,9 @@
--- It serves the code alone. What the inner functions ask for: room for what they lay out, and fields as a reader leaves them; and what
--- whoever takes a text from its buffer asks. The public functions ask for nothing.
-use Rattle.std.specs.Prelude.{ℕ, suc, ◌+◌, ◌*◌, ◌≤◌, ◌<◌, List, [], ◌∷◌, ◌++◌, ◌≡◌, length, get_or, take, drop}
-use Rattle.fields.specs.Quantities.{Age}
-use Rattle.fields.specs.Limits.{most_segments, most_ages, per_row}
-use Rattle.checks.specs.Readable.{Readable}
+-- It serves the code alone. What the inner functions ask for: room for what they lay out; and what whoever takes a text from its buffer
+-- asks. The public functions ask for nothing.
+use Rattle.std.specs.Prelude.{ℕ, suc, ◌+◌, ◌*◌, ◌≤◌, List, [], ◌∷◌, ◌++◌, ◌≡◌, length, get_or, take, drop}
+use Rattle.fields.specs.declared.segments.Age.{Age}
+use Rattle.fields.specs.Limits.{most_ages, per_row}
 use Rattle.line.specs.Lines.{line_length}
-use Rattle.card.specs.Conditions.{most_bytes}
 use Rattle.text.specs.Columns.{line_of, most_per_line}
 
 -- the bytes of the longest line
@@ -23,25 +21,14 @@ RoomForLine part = most_line_bytes ≤ length part
 abbrev pub RoomForText : List ℕ → Type 0
 RoomForText part = most_text_bytes ≤ length part
 
--- of the counts, and of a part that takes the ages' lines
-pub record AgesFit (segments ages : ℕ) (part : List ℕ) : Type 0 where
-  pub segments_most : segments ≤ most_segments
-  pub ages_most : ages ≤ most_ages
-  pub room : most_line_bytes * ages ≤ length part
+-- of the ages, of their rows' numbers, and of a part that takes their lines
+pub record AgesFit (ages : List Age) (rows part : List ℕ) : Type 0 where
+  pub rows_whole : length rows ≡ per_row * length ages
+  pub room : most_line_bytes * length ages ≤ length part
 
 -- the bytes of a line of two numbers, as a segment's is
 abbrev pub segment_line_bytes : ℕ
 segment_line_bytes = line_length 2
-
--- of the fields that are run, and of a part that takes what is printed of the run
-pub record RunFits (segments ages : ℕ) (fields part : List ℕ) : Type 0 where
-  pub readable : Readable segments ages fields
-  pub room : RoomForText part
-
--- of a buffer that holds the first bytes of an input, and of a part that takes the input's text
-pub record InputFits (buffer part : List ℕ) : Type 0 where
-  pub more : most_bytes < length buffer
-  pub room : RoomForText part
 
 -- so many bytes lie within a buffer. The second part follows from the first; both are stated so that what takes these bytes finds them.
 abbrev pub Counted : ℕ → List ℕ → Type 0

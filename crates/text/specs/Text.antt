@@ -1,8 +1,9 @@
 -- The programs' text rests on it. What they print: document 01, "Sample beam", and document 02, W1 and W7.
-use Rattle.std.specs.Prelude.{ℕ, suc, ◌≡◌, List, [], ◌∷◌, ◌++◌, length, take}
+use Rattle.std.specs.Prelude.{ℕ, suc, ◌≡◌, List, [], ◌∷◌, ◌++◌, length, take, Ok, Err}
 use Rattle.fields.specs.declared.refusal.Refusal.{Refusal}
-use Rattle.fields.specs.Outcomes.{OrRefusal, Gives, Refuses}
-use Rattle.fields.specs.Quantities.{Quantities, Age, quantities_read}
+use Rattle.fields.specs.Outcomes.{OrRefusal}
+use Rattle.fields.specs.Quantities.{Quantities, quantities_read}
+use Rattle.fields.specs.declared.segments.Age.{Age}
 use Rattle.fields.specs.Refusals.{number, place}
 use Rattle.fields.specs.Limits.{most_segments}
 use Rattle.fields.specs.Sizes.{most_report, most_scratch}
@@ -34,8 +35,8 @@ ages_text passed (age ∷ ages) (row ∷ rows) =
 
 -- a run's text, the ages those of the card
 abbrev pub result_text : List Age → OrRefusal Report → List ℕ
-result_text ages (Gives report) = before_text report.before ++ ages_text 0 ages report.rows
-result_text ages (Refuses refusal) = refusal_text refusal
+result_text ages (Ok report) = before_text report.before ++ ages_text 0 ages report.rows
+result_text ages (Err refusal) = refusal_text refusal
 
 -- the report program lends room for every member's rows
 abbrev pub run_text : Quantities → List ℕ
@@ -52,8 +53,8 @@ abbrev pub total_text : Total → List ℕ
 total_text total = line_of (total.sum ∷ total.measurable ∷ [])
 
 abbrev pub sheet_text : OrRefusal Sheet → List ℕ
-sheet_text (Gives sheet) = elongations_text 0 sheet.elongations ++ total_text sheet.total
-sheet_text (Refuses refusal) = refusal_text refusal
+sheet_text (Ok sheet) = elongations_text 0 sheet.elongations ++ total_text sheet.total
+sheet_text (Err refusal) = refusal_text refusal
 
 -- the sheet program lends room for every path
 abbrev pub sheet_text_of : Quantities → List ℕ
@@ -61,9 +62,9 @@ sheet_text_of q = sheet_text (sheet_result q most_segments)
 
 -- the text of what was read
 abbrev pub read_text : Program → OrRefusal Quantities → List ℕ
-read_text program (Refuses refusal) = refusal_text refusal
-read_text Program.Report (Gives q) = run_text q
-read_text Program.Sheet (Gives q) = sheet_text_of q
+read_text program (Err refusal) = refusal_text refusal
+read_text Program.Report (Ok q) = run_text q
+read_text Program.Sheet (Ok q) = sheet_text_of q
 
 -- "The report program reads a card from standard input.", and so does the sheet's: what a program prints for a card
 unfoldable pub text_of : Program → List ℕ → List ℕ

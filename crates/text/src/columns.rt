@@ -12,10 +12,8 @@ use line::{COLUMNS, LINE_FEED, SPACE, ZERO};
 fn digit_or_space(rest: u64, column: usize) -> u8
     ensures { result ≡ digit_or_space rest column }
 {
-    if rest == 0 {
-        if column < COLUMNS - 1 {
-            return SPACE;
-        }
+    if rest == 0 && column < COLUMNS - 1 {
+        return SPACE;
     }
     ZERO + (rest % 10) as u8
 }
@@ -25,12 +23,10 @@ fn put_number(part: &mut [u8], number: u64)
     requires { columns ≤ length part.old }
     ensures { part.new ≡ over (in_columns number) part.old }
 {
-    let mut column = COLUMNS;
     let mut rest = number;
-    while 0 < column {
-        column -= 1;
+    for column in (0..COLUMNS).rev() {
         part[column] = digit_or_space(rest, column);
-        rest = rest / 10;
+        rest /= 10;
     }
 }
 
@@ -39,13 +35,10 @@ pub(crate) fn put_line(part: &mut [u8], numbers: &[u64]) -> usize
     requires { line_length (length numbers.now) ≤ length part.old }
     ensures { Holds (line_of numbers.now) result part.new part.old }
 {
-    let mut at = 0usize;
-    let mut done = 0usize;
-    while done < numbers.len() {
-        put_number(&mut part[at..], numbers[done]);
-        at += COLUMNS;
-        done += 1;
+    for (done, number) in numbers.iter().enumerate() {
+        put_number(&mut part[COLUMNS * done..], *number);
     }
-    part[at] = LINE_FEED;
-    at + 1
+    let end = COLUMNS * numbers.len();
+    part[end] = LINE_FEED;
+    end + 1
 }

@@ -1,11 +1,10 @@
-// What the programs `report` and `sheet` print, laid out in a lent buffer: numbers in columns of 14, right-justified behind spaces.
+// What the programs `report` and `sheet` print, laid out in a lent buffer: numbers in columns of 14, right-justified behind spaces. The
+// core has no heap, and neither have its texts: each buffer has the bytes of the longest line, input or text.
 #![tactic(auto)]
 
-ghost use Rattle.std.specs.Prelude.{take};
-ghost use Rattle.fields.specs.Outcomes.{Gives};
-ghost use Rattle.fields.specs.Quantities.{quantities_of};
+ghost use Rattle.std.specs.Prelude.{take, Ok};
 ghost use Rattle.text.specs.Columns.{line_of, most_per_line, Holds};
-ghost use Rattle.text.specs.Conditions.{RoomForText, RunFits, InputFits, Counted};
+ghost use Rattle.text.specs.Conditions.{RoomForText, Counted};
 ghost use Rattle.text.specs.Text.{refusal_text, before_text, read_text, text_of, PrintsAll};
 
 mod answers;
@@ -13,7 +12,8 @@ mod columns;
 mod sheets;
 
 use fields::limits::{MOST_AGES, MOST_FIELDS, PER_ROW};
-use fields::refusal::{Reading, Refusal};
+use fields::read::Fields;
+use fields::refusal::Refusal;
 use line::COLUMNS;
 use stages::before::BeforeAges;
 
@@ -40,10 +40,8 @@ pub fn line_of(numbers: &[u64], line: &mut [u8; MOST_LINE_BYTES]) -> usize
     ensures holds { Holds (line_of (take most_per_line numbers.now)) result line.new line.old }
     ensures counted { Counted result line.new }
 {
-    if MOST_PER_LINE < numbers.len() {
-        return columns::put_line(line, &numbers[..MOST_PER_LINE]);
-    }
-    columns::put_line(line, numbers)
+    let most = MOST_PER_LINE.min(numbers.len());
+    columns::put_line(line, &numbers[..most])
 }
 
 // The line of a refusal; how many bytes it has.
@@ -62,45 +60,30 @@ pub fn line_before_ages(before: BeforeAges, line: &mut [u8; MOST_LINE_BYTES]) ->
     answers::put_before(line, before)
 }
 
-// What is printed of fields that a reader has filled.
-fn put_fields(
-    program: Program,
-    part: &mut [u8],
-    fields: &[u64; MOST_FIELDS],
-    segments: u64,
-    ages: u64,
-) -> usize
-    requires { RunFits segments ages fields.now part.old }
-    ensures { Holds (read_text program (Gives (quantities_of segments ages fields.now)))
-        result part.new part.old }
+// What is printed of fields that a reader has filled. A trait or a closure in place of the `match` would name the program twice, since the
+// definition of its text takes the enum. From here on the room of a text is asked for: with an array in place of the slice the proofs did not
+// close.
+fn put_fields(program: Program, part: &mut [u8], fields: &Fields) -> usize
+    requires { RoomForText part.old }
+    ensures { Holds (read_text program (Ok fields.now)) result part.new part.old }
 {
     match program {
-        Program::Report => answers::put_run(part, fields, segments, ages),
-        Program::Sheet => sheets::put_sheet(part, fields, segments, ages),
+        Program::Report => answers::put_run(part, fields),
+        Program::Sheet => sheets::put_sheet(part, fields),
     }
 }
 
 // What is printed for a card.
+#[tactic(auto, unfolding(crate::specs::Text::text_of))]
 fn put_card(program: Program, part: &mut [u8], card: &[u8]) -> usize
     requires { RoomForText part.old }
     ensures { Holds (text_of program card.now) result part.new part.old }
 {
-    let mut fields = [0u64; MOST_FIELDS];
-    match card::read_card(card, &mut fields) {
-        Reading::Not(refusal) => answers::put_refusal(part, refusal),
-        Reading::Fields(segments, ages) => put_fields(program, part, &fields, segments, ages),
+    let mut numbers = [0u64; MOST_FIELDS];
+    match card::read_card(card, &mut numbers) {
+        Ok(counts) => put_fields(program, part, &Fields::new(&numbers, counts)),
+        Err(refusal) => answers::put_refusal(part, refusal),
     }
-}
-
-// What is printed for an input of which a buffer holds the first bytes.
-fn put_input(program: Program, part: &mut [u8], buffer: &[u8], read: usize) -> usize
-    requires { InputFits buffer.now part.old }
-    ensures { PrintsAll program buffer.now read result part.new part.old }
-{
-    if buffer.len() < read {
-        return put_card(program, part, buffer);
-    }
-    put_card(program, part, &buffer[..read])
 }
 
 // What a program prints for an input that was read into a buffer until that was full or the input ended, so many bytes of it; how many
@@ -114,5 +97,6 @@ pub fn text_of_input(
     ensures prints_all { PrintsAll program buffer.now read result text.new text.old }
     ensures counted { Counted result text.new }
 {
-    put_input(program, text, buffer, read)
+    let bytes = read.min(buffer.len());
+    put_card(program, text, &buffer[..bytes])
 }

@@ -12,9 +12,9 @@ use lib.Dec.{ltb, eqb, lit<, eqb-suc-zero}
 use lib.Arith.{mod-mul}
 use lib.Pow.{pow-add, pow_pos, pow_mono, shl_lt, shl_exact}
 use borrow.Author.Tests.{lt-ltb, le-ltb, lt-leb, le-leb, ne_eqb, ltb-true, ltb-false}
-use Rattle.ticks.specs.declared.Decoded.TheVariants.{Number, Refused}
+use Rattle.std.specs.Prelude.{Some, None}
 use Rattle.ticks.specs.Doubles.{sign, exponent, fraction, magnitude, one, not_finite, too_large, accepted}
-use Rattle.ticks.specs.Decoder.{tick_doublings, decoded_of}
+use Rattle.ticks.specs.Decoder.{tick_doublings, cut, decoded_of}
 
 -- the exponent of 2 ^ 31
 abbrev large_exponent : ℕ
@@ -128,21 +128,21 @@ refuses_above bits l n h = decide (ltb bits (2 ^ 63)) refl
 
 decodes : (bits doublings quotient : ℕ) (exact : Bool) → accepted bits ≡ true
     → quotient ≡ magnitude bits * 2 ^ doublings / one → exact ≡ eqb (magnitude bits * 2 ^ doublings % one) 0
-    → Number quotient exact ≡ decoded_of bits doublings
+    → Some (cut quotient exact) ≡ decoded_of bits doublings
 unfolding decoded_of
 decodes bits doublings quotient exact a q e = rw (a, q, e)
 
-pub refuses : (bits doublings : ℕ) → accepted bits ≡ false → Refused ≡ decoded_of bits doublings
+pub refuses : (bits doublings : ℕ) → accepted bits ≡ false → None ≡ decoded_of bits doublings
 unfolding decoded_of
 refuses bits doublings a = rw a
 
-pub minus_zero : (bits doublings : ℕ) → bits ≡ 2 ^ 63 → Number 0 true ≡ decoded_of bits doublings
+pub minus_zero : (bits doublings : ℕ) → bits ≡ 2 ^ 63 → Some (cut 0 true) ≡ decoded_of bits doublings
 unfolding decoded_of magnitude
 minus_zero bits doublings e = rw (e, zero-mul (2 ^ doublings))
 
 -- more digits are cut off than a fraction has: the double after the doublings is below 1
 pub below_one : (bits doublings : ℕ) → bits < 2 ^ 63 → doublings ≤ tick_doublings → bits / 2 ^ 52 < large_exponent
-    → fraction_digits < cut_of doublings (bits / 2 ^ 52) → Number 0 (eqb bits 0) ≡ decoded_of bits doublings
+    → fraction_digits < cut_of doublings (bits / 2 ^ 52) → Some (cut 0 (eqb bits 0)) ≡ decoded_of bits doublings
 below_one bits doublings h d l c =
     let x = bits / 2 ^ 52 in
     let t = bits % 2 ^ 52 in
@@ -159,22 +159,22 @@ below_one bits doublings h d l c =
     ∙ ap (λ (n : ℕ). eqb n 0) (sym e ∙ sym (mod-eq_of_lt small)))
 
 -- the unit of the cut, as the machine shifts
-unit_is : (cut : ℕ) → cut ≤ fraction_digits → 1 * 2 ^ cut % 2 ^ 64 ≡ 2 ^ cut
-unit_is cut h = shl_exact {a = 1} 1 cut 64 (lit< tt) (omega arith) ∙ one-mul (2 ^ cut)
+unit_is : (digits : ℕ) → digits ≤ fraction_digits → 1 * 2 ^ digits % 2 ^ 64 ≡ 2 ^ digits
+unit_is digits h = shl_exact {a = 1} 1 digits 64 (lit< tt) (omega arith) ∙ one-mul (2 ^ digits)
 
-pub unit_some : (cut : ℕ) → cut ≤ fraction_digits → 0 < 1 * 2 ^ cut % 2 ^ 64
-unit_some cut h = rw (unit_is cut h) (pow_pos cut)
+pub unit_some : (digits : ℕ) → digits ≤ fraction_digits → 0 < 1 * 2 ^ digits % 2 ^ 64
+unit_some digits h = rw (unit_is digits h) (pow_pos digits)
 
 -- the significand by the unit of the cut
 pub cut_off : (bits doublings : ℕ) → bits < 2 ^ 63 → doublings ≤ tick_doublings → bits / 2 ^ 52 < large_exponent
     → cut_of doublings (bits / 2 ^ 52) ≤ fraction_digits
-    → Number ((2 ^ 52 + bits % 2 ^ 52) / (1 * 2 ^ cut_of doublings (bits / 2 ^ 52) % 2 ^ 64))
-    (eqb ((2 ^ 52 + bits % 2 ^ 52) % (1 * 2 ^ cut_of doublings (bits / 2 ^ 52) % 2 ^ 64)) 0)
+    → Some (cut ((2 ^ 52 + bits % 2 ^ 52) / (1 * 2 ^ cut_of doublings (bits / 2 ^ 52) % 2 ^ 64))
+    (eqb ((2 ^ 52 + bits % 2 ^ 52) % (1 * 2 ^ cut_of doublings (bits / 2 ^ 52) % 2 ^ 64)) 0))
     ≡ decoded_of bits doublings
 cut_off bits doublings h d l c =
     let x = bits / 2 ^ 52 in
-    let cut = cut_of doublings x in
-    let unit = 2 ^ cut in
+    let digits = cut_of doublings x in
+    let unit = 2 ^ digits in
     let significand = 2 ^ 52 + bits % 2 ^ 52 in
     let p = 2 ^ (x - 1 + doublings) in
     let some = pow_pos (x - 1 + doublings) in
@@ -182,12 +182,12 @@ cut_off bits doublings h d l c =
     ap (λ (n : ℕ). n * 2 ^ doublings) (magnitude_of bits h ∙ normal x (bits % 2 ^ 52) (omega arith))
     ∙ mul_assoc significand (2 ^ (x - 1)) (2 ^ doublings)
     ∙ ap (λ (n : ℕ). significand * n) (sym (pow-add 2 (x - 1) doublings)) in
-    let s : 1074 ≡ cut + (x - 1 + doublings) = omega arith in
-    let o : one ≡ unit * p = ap (λ (n : ℕ). 2 ^ n) s ∙ pow-add 2 cut (x - 1 + doublings) in
+    let s : 1074 ≡ digits + (x - 1 + doublings) = omega arith in
+    let o : one ≡ unit * p = ap (λ (n : ℕ). 2 ^ n) s ∙ pow-add 2 digits (x - 1 + doublings) in
     let q : magnitude bits * 2 ^ doublings / one ≡ significand / unit = rw (e, o) (mul-div-mul_right significand unit some) in
     let r : magnitude bits * 2 ^ doublings % one ≡ significand % unit * p =
-    rw (e, o) (remainder_scaled significand unit p (pow_pos cut) some) in
+    rw (e, o) (remainder_scaled significand unit p (pow_pos digits) some) in
     decodes bits doublings _ _ (accepts bits h l)
-    (ap (λ (n : ℕ). significand / n) (unit_is cut c) ∙ sym q)
-    (ap (λ (n : ℕ). eqb (significand % n) 0) (unit_is cut c)
+    (ap (λ (n : ℕ). significand / n) (unit_is digits c) ∙ sym q)
+    (ap (λ (n : ℕ). eqb (significand % n) 0) (unit_is digits c)
     ∙ sym (ap (λ (n : ℕ). eqb n 0) r ∙ zero_scaled (significand % unit) p some))

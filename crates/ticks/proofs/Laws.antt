@@ -12,7 +12,7 @@ use lib.Ieee.{Float, nan, inf, fin, binary64, up, down, fits, to_bits}
 use lib.Ieee.Fits.{down_pos}
 use lib.Ieee.Nearest.{div_same}
 use borrow.Author.Tests.{lt-ltb, le-ltb, ltb-true, ne_eqb}
-use Rattle.ticks.specs.declared.Amount.TheVariants.{Of, Refused}
+use Rattle.std.specs.Prelude.{Option, Some, None}
 use Rattle.ticks.specs.Doubles.{sign, exponent, magnitude, one, not_finite, too_large, accepted, ticks_of, whole_of}
 use Rattle.ticks.specs.Ticks.{ticks_per_unit}
 use Rattle.ticks.proofs.Values.{stands, accepted_value, same_whole, one_some}
@@ -25,7 +25,7 @@ in_range m e f l = accepted_value _ false m e (stands false m e f) ∙ lt-ltb (m
 
 -- A double m * 2 ^ e from 0 to below 2 ^ 31 reads the largest whole number of ticks not above it.
 pub ticks_of_value : (m : ℕ) (e : ℤ) → T (fits binary64 (fin false m e)) → m * up e < too_large * down e
-    → ticks_of (to_bits binary64 (fin false m e)) ≡ Of (ticks_per_unit * (m * up e) / down e)
+    → ticks_of (to_bits binary64 (fin false m e)) ≡ Some (ticks_per_unit * (m * up e) / down e)
 unfolding ticks_of
 ticks_of_value m e f l =
     let n = magnitude (to_bits binary64 (fin false m e)) in
@@ -34,11 +34,11 @@ ticks_of_value m e f l =
     mul_right_comm n ticks_per_unit (down e) ∙ ap (λ (k : ℕ). k * ticks_per_unit) value
     ∙ mul_comm (m * up e * one) ticks_per_unit ∙ sym (mul_assoc ticks_per_unit (m * up e) one) in
     rw (in_range m e f l)
-    (ap Of (div_same (n * ticks_per_unit) one (ticks_per_unit * (m * up e)) (down e) one_some (down_pos e) scaled))
+    (ap Some (div_same (n * ticks_per_unit) one (ticks_per_unit * (m * up e)) (down e) one_some (down_pos e) scaled))
 
 -- The same double reads itself where it is a whole number, and is refused otherwise.
 pub whole_of_value : (m : ℕ) (e : ℤ) → T (fits binary64 (fin false m e)) → m * up e < too_large * down e
-    → whole_of (to_bits binary64 (fin false m e)) ≡ cond (eqb (m * up e % down e) 0) (Of (m * up e / down e)) Refused
+    → whole_of (to_bits binary64 (fin false m e)) ≡ cond (eqb (m * up e % down e) 0) (Some (m * up e / down e)) None
 unfolding whole_of
 whole_of_value m e f l =
     let n = magnitude (to_bits binary64 (fin false m e)) in
@@ -57,7 +57,7 @@ Unreadable nan = Unit
 Unreadable (inf s) = Unit
 Unreadable (fin s m e) = ((s ≡ true) × (0 < m)) ⊎ (too_large * down e ≤ m * up e)
 
-not_accepted : (bits : ℕ) → accepted bits ≡ false → (ticks_of bits ≡ Refused) × (whole_of bits ≡ Refused)
+not_accepted : (bits : ℕ) → accepted bits ≡ false → (ticks_of bits ≡ None) × (whole_of bits ≡ None)
 unfolding ticks_of whole_of
 not_accepted bits a = (rw a, rw a)
 
@@ -67,7 +67,7 @@ out_of_range s m e (inr h) = rw (le-ltb (m * up e) (too_large * down e) h) (and-
 
 -- Such a double is refused by both readings.
 pub refused : (x : Float) → T (fits binary64 x) → Unreadable x
-    → (ticks_of (to_bits binary64 x) ≡ Refused) × (whole_of (to_bits binary64 x) ≡ Refused)
+    → (ticks_of (to_bits binary64 x) ≡ None) × (whole_of (to_bits binary64 x) ≡ None)
 unfolding ticks_of whole_of magnitude to_bits
 refused nan f u = (refl, refl)
 refused (inf true) f u = (refl, refl)
@@ -78,7 +78,7 @@ refused (fin s m e) f u =
 
 -- ---- how large an amount can be
 
-picked : (b : Bool) (a n : ℕ) → cond b (Of a) Refused ≡ Of n → (b ≡ true) × (a ≡ n)
+picked : (b : Bool) (a n : ℕ) → cond b (Some a) None ≡ Some n → (b ≡ true) × (a ≡ n)
 picked true a n e = (refl, cc)
 picked false a n e = absurd (let z : ◌≡◌ {A = ℕ} 0 1 = cc in omega arith)
 
@@ -88,7 +88,7 @@ small bits a =
     ltb-true (magnitude bits) (too_large * one) ((and-eq-true_iff rest (ltb (magnitude bits) (too_large * one))).0 a).1
 
 -- An amount in ticks is below 2 ^ 41.
-pub ticks_below : (bits n : ℕ) → ticks_of bits ≡ Of n → n < 2 ^ 41
+pub ticks_below : (bits n : ℕ) → ticks_of bits ≡ Some n → n < 2 ^ 41
 unfolding ticks_of
 ticks_below bits n e =
     let taken = picked (accepted bits) (magnitude bits * ticks_per_unit / one) n e in
@@ -96,7 +96,7 @@ ticks_below bits n e =
     rw (← taken.1) ((div-lt_iff_lt-mul one_some).1 (mul-lt-mul_of_pos_right m (lit< tt)))
 
 -- A whole amount is below 2 ^ 31.
-pub whole_below : (bits n : ℕ) → whole_of bits ≡ Of n → n < 2 ^ 31
+pub whole_below : (bits n : ℕ) → whole_of bits ≡ Some n → n < 2 ^ 31
 unfolding whole_of
 whole_below bits n e =
     let taken = picked (accepted bits && eqb (magnitude bits % one) 0) (magnitude bits / one) n e in

@@ -1,15 +1,18 @@
 -- It serves the code alone. What the decoder that both readings of a double share gives.
-use Rattle.std.specs.Prelude.{cond, ℕ, ◌*◌, ◌/◌, ◌%◌, ◌^◌, eqb}
-use Rattle.ticks.specs.declared.Decoded.{Decoded}
+use Rattle.std.specs.Prelude.{cond, ℕ, ◌*◌, ◌/◌, ◌%◌, ◌^◌, Bool, eqb, Option, Some, None}
+use Rattle.ticks.specs.declared.Cut.{Cut}
 use Rattle.ticks.specs.Doubles.{magnitude, one, accepted}
 
 -- 1024 is 2 ^ 10
 abbrev pub tick_doublings : ℕ
 tick_doublings = 10
 
+abbrev pub cut : ℕ → Bool → Cut
+cut quotient exact = record { quotient = quotient; exact = exact }
+
 -- the double after some doublings, cut to a whole number, and whether nothing was cut off
-unfoldable pub decoded_of : ℕ → ℕ → Decoded
+unfoldable pub decoded_of : ℕ → ℕ → Option Cut
 decoded_of bits doublings =
     cond (accepted bits)
-    (Decoded.Number (magnitude bits * 2 ^ doublings / one) (eqb (magnitude bits * 2 ^ doublings % one) 0))
-    Decoded.Refused
+    (Some (cut (magnitude bits * 2 ^ doublings / one) (eqb (magnitude bits * 2 ^ doublings % one) 0)))
+    None

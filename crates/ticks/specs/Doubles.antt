@@ -1,7 +1,6 @@
 -- The promise rests on it. What a double, given by its 64 bits, says in whole numbers: document 01, "The card".
-use Rattle.std.specs.Prelude.{ℕ, ◌+◌, ◌-◌, ◌*◌, ◌/◌, ◌%◌, ◌^◌, Bool, not, ◌&&◌, ◌||◌, cond, leb, ltb, eqb}
+use Rattle.std.specs.Prelude.{ℕ, ◌+◌, ◌-◌, ◌*◌, ◌/◌, ◌%◌, ◌^◌, Bool, not, ◌&&◌, ◌||◌, cond, leb, ltb, eqb, Option, Some, None}
 use Rattle.ticks.specs.Ticks.{ticks_per_unit}
-use Rattle.ticks.specs.declared.Amount.{Amount}
 
 -- ---- the three parts of the bits, and the number that they stand for
 
@@ -45,9 +44,9 @@ accepted bits =
     && ltb (magnitude bits) (too_large * one)
 
 -- "the largest whole number of ticks not above it"
-unfoldable pub ticks_of : ℕ → Amount
-ticks_of bits = cond (accepted bits) (Amount.Of (magnitude bits * ticks_per_unit / one)) Amount.Refused
+unfoldable pub ticks_of : ℕ → Option ℕ
+ticks_of bits = cond (accepted bits) (Some (magnitude bits * ticks_per_unit / one)) None
 
 -- "any other must be whole"
-unfoldable pub whole_of : ℕ → Amount
-whole_of bits = cond (accepted bits && eqb (magnitude bits % one) 0) (Amount.Of (magnitude bits / one)) Amount.Refused
+unfoldable pub whole_of : ℕ → Option ℕ
+whole_of bits = cond (accepted bits && eqb (magnitude bits % one) 0) (Some (magnitude bits / one)) None

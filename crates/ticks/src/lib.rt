@@ -9,18 +9,11 @@ ghost use Rattle.ticks.specs.Doubles.{ticks_of, whole_of};
 ghost use Rattle.ticks.specs.Ticks.{ticks_per_unit};
 ghost use Rattle.ticks.specs.Decoder.{decoded_of, tick_doublings};
 
-// What a double reads.
-#[derive(Clone, Copy)]
-pub enum Amount {
-    Of(u64),
-    Refused,
-}
-
 // A double after some doublings: cut to a whole number, and whether nothing was cut off.
 #[derive(Clone, Copy)]
-pub enum Decoded {
-    Number { quotient: u64, exact: bool },
-    Refused,
+pub struct Cut {
+    pub quotient: u64,
+    pub exact: bool,
 }
 
 // 2^63: the bits of -0.0.
@@ -44,78 +37,70 @@ const TICK_DOUBLINGS: u64 = 10;
 // 2^-10 of a unit.
 const TICK: f64 = 0.0009765625;
 
-// The one decoder. The significand has 53 digits, so that a cut of more leaves 0.
-fn decode(bits: u64, doublings: u64) -> Decoded
+// The one decoder; of a double that is refused, nothing. The significand has 53 digits, so that a cut of more leaves 0.
+fn decode(bits: u64, doublings: u64) -> Option<Cut>
     requires { doublings ≤ tick_doublings }
     ensures { result ≡ decoded_of bits doublings }
 {
     if bits == MINUS_ZERO {
-        return Decoded::Number {
+        return Some(Cut {
             quotient: 0,
             exact: true,
-        };
+        });
     }
     // A set sign stands above the exponent, so that it too makes this too large.
     let exponent = bits / LEADING;
     if TOO_LARGE <= exponent {
-        return Decoded::Refused;
+        return None;
     }
     let cut = BIAS - doublings - exponent;
     if FRACTION_DIGITS < cut {
-        return Decoded::Number {
+        return Some(Cut {
             quotient: 0,
             exact: bits == 0,
-        };
+        });
     }
     let unit = 1u64 << cut;
     let significand = LEADING + bits % LEADING;
-    Decoded::Number {
+    Some(Cut {
         quotient: significand / unit,
         exact: significand % unit == 0,
-    }
+    })
 }
 
 // The largest whole number of ticks not above the double with these bits.
-pub fn ticks_of_bits(bits: u64) -> Amount
+
+pub fn ticks_of_bits(bits: u64) -> Option<u64>
     ensures { result ≡ ticks_of bits }
 {
-    match decode(bits, TICK_DOUBLINGS) {
-        Decoded::Number { quotient, exact: _ } => Amount::Of(quotient),
-        Decoded::Refused => Amount::Refused,
-    }
+    let cut = decode(bits, TICK_DOUBLINGS)?;
+    Some(cut.quotient)
 }
 
 // The double with these bits, where it is a whole number.
-pub fn whole_of_bits(bits: u64) -> Amount
+
+pub fn whole_of_bits(bits: u64) -> Option<u64>
     ensures { result ≡ whole_of bits }
 {
-    match decode(bits, 0) {
-        Decoded::Number { quotient, exact } => {
-            if exact {
-                Amount::Of(quotient)
-            } else {
-                Amount::Refused
-            }
-        }
-        Decoded::Refused => Amount::Refused,
-    }
+    let cut = decode(bits, 0)?;
+    cut.exact.then_some(cut.quotient)
 }
 
 // A NaN has no bits of its own in the model of floats, so it is refused before its bits are taken.
-pub fn ticks_of_double(x: f64) -> Amount
+pub fn ticks_of_double(x: f64) -> Option<u64>
     ensures { result ≡ ticks_of (to_bits binary64 x) }
 {
     if x != x {
-        return Amount::Refused;
+        return None;
     }
     ticks_of_bits(f64::to_bits(x))
 }
 
-pub fn whole_of_double(x: f64) -> Amount
+pub fn whole_of_double(x: f64) -> Option<u64>
     ensures { result ≡ whole_of (to_bits binary64 x) }
 {
     if x != x {
-        return Amount::Refused;
+        return None;
     }
     whole_of_bits(f64::to_bits(x))
 }

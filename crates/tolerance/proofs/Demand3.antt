@@ -14,11 +14,11 @@ use native.Mathlib.Omega.{arith}
 use borrow.Author.Tests.{lt-ltb, le-ltb}
 use lib.ListN.{length, get_or}
 use lib.Seq.{take_all}
+use Rattle.std.specs.Prelude.{Ok}
 use Rattle.fraction.specs.Fraction.{Fraction, whole, larger, Within}
 use Rattle.fraction.proofs.Laws.{≈-sym, ≼_trans, ≼-of-≈, whole-⊕, zero-⊕, larger_left, larger_right}
 use Rattle.fraction.proofs.Floors.{whole_order}
 use Rattle.fraction.proofs.Distances.{within_refl, within_weaken}
-use Rattle.fields.specs.Outcomes.{Gives}
 use Rattle.fields.specs.Quantities.{Quantities}
 use Rattle.fields.specs.Limits.{most_segments, most_ages}
 use Rattle.formulas.proofs.Laws.{stress_left_most}
@@ -214,7 +214,7 @@ module _ {q : Quantities} {report scratch : ℕ} (facts : Facts q report scratch
 
 pub demand_3 : (q : Quantities) (report scratch : ℕ) → length q.path ≤ most_segments → length q.ages ≤ most_ages
     → Facts q report scratch
-    → (given : Report) → member_result (member_of q) q.ages ≡ Gives given → Demand3 q given
+    → (given : Report) → member_result (member_of q) q.ages ≡ Ok given → Demand3 q given
 demand_3 q report scratch few_segments few_ages facts given result =
     let (began, ran) = run q given result in
     record {

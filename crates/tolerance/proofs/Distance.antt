@@ -15,7 +15,8 @@ use Rattle.fraction.proofs.Slopes.{parts_keep_distance}
 use Rattle.ticks.specs.Ticks.{ticks_per_unit, T}
 use Rattle.coefficient.specs.declared.codes.Kind.{Kind}
 use Rattle.coefficient.specs.declared.codes.Kind.TheVariants.{Pretensioned, PostTensioned}
-use Rattle.fields.specs.Quantities.{Quantities, Age}
+use Rattle.fields.specs.declared.segments.Age.{Age}
+use Rattle.fields.specs.Quantities.{Quantities}
 use Rattle.member.specs.Member.{kind_of, steel_of, kappa_of, creep_of}
 use Rattle.member.specs.Facts.{RisingFrom, no_age, rises, Facts}
 use Rattle.tolerance.specs.Formulas.{kappa, whole_creep, whole_shrinkage, slip_loss, relaxation_loss, concrete_stress}

@@ -13,7 +13,8 @@ use Rattle.fraction.proofs.Distances.{within_refl, within_weaken, within_resp_â‰
 use Rattle.ticks.specs.Ticks.{ticks_per_unit}
 use Rattle.coefficient.specs.declared.codes.Kind.{Kind}
 use Rattle.coefficient.specs.declared.codes.Kind.TheVariants.{Pretensioned, PostTensioned}
-use Rattle.fields.specs.Quantities.{Quantities, Age}
+use Rattle.fields.specs.declared.segments.Age.{Age}
+use Rattle.fields.specs.Quantities.{Quantities}
 use Rattle.member.specs.Member.{member_of, kind_of, steel_of, kappa_of}
 use Rattle.member.specs.Facts.{RisingFrom, rises, Facts}
 use Rattle.formulas.specs.Steps.{slip_loss as ticks_slip_loss, deflector_ticks}

@@ -23,7 +23,8 @@ use Rattle.exponential.specs.Factor.{factor, powers}
 use Rattle.exponential.specs.Series.{sum_to, BySeries}
 use Rattle.exponential.proofs.Turns.{factor_most}
 use Rattle.exponential.proofs.Series.{series, factor_error, factor_near}
-use Rattle.fields.specs.Quantities.{Quantities, Segment, parabola, bend}
+use Rattle.fields.specs.declared.segments.Segment.{Segment}
+use Rattle.fields.specs.Quantities.{Quantities, parabola, bend}
 use Rattle.fields.specs.Limits.{most_segments, most_friction}
 use Rattle.member.specs.Constants.{million, path_friction as ticks_friction, wobble_part as ticks_wobble}
 use Rattle.member.specs.Constants.{curvature_part as ticks_curvature, jacked, stress_along as ticks_along}

@@ -10,8 +10,10 @@ use Prim.Native.Nat.{ℕ, suc, ◌+◌, ◌-◌, ◌≤◌}
 use native.Mathlib.Nat.{add-zero, sub_self, mul-zero, zero-div}
 use native.Mathlib.Omega.{arith}
 use lib.ListN.{length, get_or}
-use Rattle.fields.specs.Outcomes.{OrRefusal, Gives, onward}
-use Rattle.fields.specs.Quantities.{Quantities, Age}
+use Rattle.std.specs.Prelude.{Ok}
+use Rattle.fields.specs.Outcomes.{OrRefusal, onward}
+use Rattle.fields.specs.declared.segments.Age.{Age}
+use Rattle.fields.specs.Quantities.{Quantities}
 use Rattle.fields.specs.Limits.{least_stress}
 use Rattle.fields.proofs.Onward.{through}
 use Rattle.member.specs.Member.{member_of, friction_of, path_length_of}
@@ -25,7 +27,7 @@ use Rattle.stages.specs.declared.intervals.Losses.{Losses}
 use Rattle.stages.specs.declared.intervals.Row.{Row}
 use Rattle.stages.specs.Run.{after, before_ages, slip_of, early_relaxation_of, shortening_of, seated, begun_of, end_at, transfer_end}
 use Rattle.stages.specs.Run.{losses_between, together, lifted, gain_between, row_of, row_between, Aged, aged_from, Report, member_result}
-use Rattle.stages.proofs.Leaving.{after_gives, lifted_gives}
+use Rattle.stages.proofs.Leaving.{same_value, after_gives, lifted_gives}
 use Rattle.stages.proofs.Slipping.{given_over_the_tendon, given_at_the_section}
 use Rattle.tolerance.specs.Demand.{core_after_deflector, core_after_early, stresses_of, losses_before, losses_of_rows, gains_of_rows}
 use Rattle.tolerance.specs.Demand.{slip_dies_out, SlipIsExact, g_under, RisesByGain, EachRisesByGain}
@@ -34,18 +36,15 @@ use Rattle.tolerance.proofs.Bounds.{Low, moment_rises}
 
 -- ---- what a run that is not refused went through
 
-gives_same : {A : Type 0} {a b : A} → Gives a ≡ Gives b → a ≡ b
-gives_same e = cc
-
-goes_on : {B : Type 0} {b : B} (place stress loss : ℕ) (next : ℕ → OrRefusal B) → onward (after place stress loss) next ≡ Gives b
-    → (loss + least_stress ≤ stress) × (next (stress - loss) ≡ Gives b)
+goes_on : {B : Type 0} {b : B} (place stress loss : ℕ) (next : ℕ → OrRefusal B) → onward (after place stress loss) next ≡ Ok b
+    → (loss + least_stress ≤ stress) × (next (stress - loss) ≡ Ok b)
 goes_on place stress loss next e =
     let gave = through (after place stress loss) next e in
     let (fits, is) = after_gives place stress loss gave.from gave.given_is in
     (fits, rw is at gave.next_is)
 
 rises_on : {B : Type 0} {b : B} (q : Quantities) (number stress gain : ℕ) (next : ℕ → OrRefusal B)
-    → onward (lifted number q.ultimate_strength stress gain) next ≡ Gives b → Low q (stress + gain) × (next (stress + gain) ≡ Gives b)
+    → onward (lifted number q.ultimate_strength stress gain) next ≡ Ok b → Low q (stress + gain) × (next (stress + gain) ≡ Ok b)
 rises_on q number stress gain next e =
     let gave = through (lifted number q.ultimate_strength stress gain) next e in
     let (low, is) = lifted_gives number q.ultimate_strength stress gain gave.from gave.given_is in
@@ -56,7 +55,7 @@ rises_on q number stress gain next e =
 -- the five losses, each from the stress before it, and the stress that they leave
 pub record Began (q : Quantities) (before : BeforeAges) : Type 0 where
   pub friction : before.friction ≡ jacked q - stress_left (jacked q) (friction_of q)
-  pub slip : slip_of (member_of q) ≡ Gives before.slip
+  pub slip : slip_of (member_of q) ≡ Ok before.slip
   pub deflector : before.deflector ≡ deflector_ticks q.deflector_loss
   pub early : before.early_relaxation ≡ early_relaxation_of (member_of q) (core_after_deflector q before)
   pub shortening : before.shortening ≡ shortening_of (member_of q) (core_after_early q before)
@@ -68,7 +67,7 @@ five_losses : (j f s d r c : ℕ) → f + least_stress ≤ j → s + least_stres
     → j ≡ (j - f - s - d - r - c) + (f + s + d + r + c)
 five_losses j f s d r c hf hs hd hr hc = omega arith
 
-begun : (q : Quantities) {before : BeforeAges} → begun_of (member_of q) ≡ Gives before → Began q before
+begun : (q : Quantities) {before : BeforeAges} → begun_of (member_of q) ≡ Ok before → Began q before
 unfolding begun_of seated member_of
 begun q e =
     let m = member_of q in
@@ -79,12 +78,12 @@ begun q e =
     let slips = through (slip_of m) _ e in
     let s = slips.from in
     let (slipped, e) = goes_on before_ages (jacked q - f) s _ slips.next_is in
-    let (deflected, e) = goes_on before_ages (jacked q - f - s) d _ (rw (← gives_same e) at sat.next_is) in
+    let (deflected, e) = goes_on before_ages (jacked q - f - s) d _ (rw (← same_value e) at sat.next_is) in
     let r = early_relaxation_of m (jacked q - f - s - d) in
     let (relaxed, e) = goes_on before_ages (jacked q - f - s - d) r _ e in
     let c = shortening_of m (jacked q - f - s - d - r) in
     let (shortened, e) = goes_on before_ages (jacked q - f - s - d - r) c _ e in
-    subst (λ b. Began q b) (gives_same e) (record {
+    subst (λ b. Began q b) (same_value e) (record {
       friction = refl;
       slip = slips.given_is;
       deflector = refl;
@@ -140,26 +139,26 @@ pub data AgesRun (q : Quantities) : (moments hour stress : ℕ) → List Age →
       → AgesRun q moments hour stress (age ∷ ages) (row_to q moments hour stress age ∷ rows) last
 
 ages_run : (q : Quantities) (passed moments hour stress : ℕ) (ages : List Age) (aged : Aged)
-    → aged_from (member_of q) passed stress (end_at (member_of q) moments hour) ages ≡ Gives aged
+    → aged_from (member_of q) passed stress (end_at (member_of q) moments hour) ages ≡ Ok aged
     → AgesRun q moments hour stress ages aged.rows aged.last
 unfolding aged_from member_of
 ages_run q passed moments hour stress [] aged e =
-    subst (λ (a : Aged). AgesRun q moments hour stress [] a.rows a.last) (gives_same e) no_age
+    subst (λ (a : Aged). AgesRun q moments hour stress [] a.rows a.last) (same_value e) no_age
 ages_run q passed moments hour stress (age ∷ ages) aged e =
     let start = end_at (member_of q) moments hour in
     let lost = together (losses_to q moments hour stress age) in
     let passes = through (row_between (member_of q) (suc passed) stress start (end_to q moments age)) _ e in
     let (fits, lifts) = goes_on (suc passed) stress lost _ passes.given_is in
     let (low, row) = rises_on q (suc passed) (stress - lost) (gain_to q moments hour age) _ lifts in
-    let later = through _ _ (rw (← gives_same row) at passes.next_is) in
-    subst (λ (a : Aged). AgesRun q moments hour stress (age ∷ ages) a.rows a.last) (gives_same later.next_is)
+    let later = through _ _ (rw (← same_value row) at passes.next_is) in
+    subst (λ (a : Aged). AgesRun q moments hour stress (age ∷ ages) a.rows a.last) (same_value later.next_is)
     (an_age fits low
     (ages_run q (suc passed) (moments + age.moment) age.hour (stress_to q moments hour stress age) ages later.from
     later.given_is))
 
 -- ---- the run
 
-pub run : (q : Quantities) (report : Report) → member_result (member_of q) q.ages ≡ Gives report
+pub run : (q : Quantities) (report : Report) → member_result (member_of q) q.ages ≡ Ok report
     → Began q report.before
     × AgesRun q q.own_weight_moment q.transfer report.before.stress q.ages report.rows report.last
 unfolding member_result member_of
@@ -170,7 +169,7 @@ run q report e =
     subst
     (λ (r : Report).
     Began q r.before × AgesRun q q.own_weight_moment q.transfer r.before.stress q.ages r.rows r.last)
-    (gives_same ages.next_is) (
+    (same_value ages.next_is) (
       begun q begins.given_is,
       ages_run q 0 q.own_weight_moment q.transfer before.stress q.ages ages.from ages.given_is,
     )

@@ -22,8 +22,7 @@ use Rattle.fraction.proofs.Distances.{within_weaken, within_resp_≈}
 use Rattle.tables.specs.declared.Row.{Row}
 use Rattle.coefficient.specs.declared.clocks.HoursSinceTransfer.{HoursSinceTransfer}
 use Rattle.coefficient.specs.declared.clocks.HoursSinceCuring.{HoursSinceCuring}
-use Rattle.tables.specs.Tables.{hundred, at, hundredths, weighed, reading, along as ticks_along, share_rows, share_reading}
-use Rattle.tables.specs.declared.shares.Share.TheVariants.{Creep, Shrinkage}
+use Rattle.tables.specs.Tables.{hundred, at, hundredths, weighed, reading, along as ticks_along, creep_rows, shrinkage_rows}
 use Rattle.ticks.specs.Ticks.{T}
 use Rattle.tables.proofs.Weights.{by_way}
 use Rattle.coefficient.specs.Coefficients.{creep_share, shrinkage_share}
@@ -234,15 +233,15 @@ interval_share rows t x y on =
 -- creep's table and shrinkage's, as the clocks read them
 pub creep_share_between : (life start end : HoursSinceTransfer) → start.0 ≤ end.0
     → Share (creep_share life end - creep_share life start)
-    (share_of (share_rows Creep life.0) end.0 ⊖ share_of (share_rows Creep life.0) start.0)
-unfolding creep_share share_reading
-creep_share_between life start end on = interval_share (share_rows Creep life.0) tt start.0 end.0 on
+    (share_of (creep_rows life.0) end.0 ⊖ share_of (creep_rows life.0) start.0)
+unfolding creep_share
+creep_share_between life start end on = interval_share (creep_rows life.0) tt start.0 end.0 on
 
 pub shrinkage_share_between : (life start end : HoursSinceCuring) → start.0 ≤ end.0
     → Share (shrinkage_share life end - shrinkage_share life start)
-    (share_of (share_rows Shrinkage life.0) end.0 ⊖ share_of (share_rows Shrinkage life.0) start.0)
-unfolding shrinkage_share share_reading
-shrinkage_share_between life start end on = interval_share (share_rows Shrinkage life.0) tt start.0 end.0 on
+    (share_of (shrinkage_rows life.0) end.0 ⊖ share_of (shrinkage_rows life.0) start.0)
+unfolding shrinkage_share
+shrinkage_share_between life start end on = interval_share (shrinkage_rows life.0) tt start.0 end.0 on
 
 -- ---- a constant's part by a share: U·share/T, and shrinkage, S·share/T
 

@@ -2,7 +2,8 @@
 -- and W5.
 use Rattle.std.specs.Prelude.{ℕ, zero, suc, ◌+◌, ◌-◌, ◌*◌, ◌≤◌, ◌<◌, Bool, true, false, cond, List, [], ◌∷◌, ◌++◌, ltb, length, get_or, ◌≡◌}
 use Rattle.fraction.specs.Fraction.{Fraction, whole, Within}
-use Rattle.fields.specs.Quantities.{Quantities, Age}
+use Rattle.fields.specs.declared.segments.Age.{Age}
+use Rattle.fields.specs.Quantities.{Quantities}
 use Rattle.member.specs.Constants.{jacked, stress_along as ticks_along}
 use Rattle.stages.specs.declared.before.BeforeAges.{BeforeAges}
 use Rattle.stages.specs.declared.intervals.Row.{Row}

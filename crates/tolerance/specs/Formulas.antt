@@ -6,7 +6,8 @@ use Rattle.tables.specs.declared.Row.{Row}
 use Rattle.tables.specs.Tables.{hundred, at, hundredths, weighed}
 use Rattle.ticks.specs.Ticks.{ticks_per_unit, T}
 use Rattle.coefficient.specs.Coefficients.{scf, ssf, mcf, ucr, ush}
-use Rattle.fields.specs.Quantities.{Quantities, Segment, parabola, bend}
+use Rattle.fields.specs.declared.segments.Segment.{Segment}
+use Rattle.fields.specs.Quantities.{Quantities, parabola, bend}
 use Rattle.member.specs.Constants.{million, kappa_of_squares, creep_divisor, shrinkage_divisor}
 use Rattle.member.specs.Member.{cure_of, concrete_of}
 use Rattle.coefficient.specs.declared.codes.Steel.{Steel}

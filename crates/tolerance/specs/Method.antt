@@ -7,9 +7,9 @@ use Rattle.logarithm.specs.Logarithm.{logarithm, service_life}
 use Rattle.ticks.specs.Ticks.{ticks_per_unit, T}
 use Rattle.coefficient.specs.declared.codes.Kind.{Kind}
 use Rattle.coefficient.specs.Coefficients.{since_transfer, since_curing, since_tensioning}
-use Rattle.tables.specs.declared.shares.Share.{Share}
-use Rattle.tables.specs.Tables.{share_rows}
-use Rattle.fields.specs.Quantities.{Quantities, Age}
+use Rattle.tables.specs.Tables.{creep_rows, shrinkage_rows}
+use Rattle.fields.specs.declared.segments.Age.{Age}
+use Rattle.fields.specs.Quantities.{Quantities}
 use Rattle.member.specs.Member.{kind_of, steel_of, hours_of}
 use Rattle.member.specs.Constants.{jacked}
 use Rattle.tolerance.specs.Formulas.{path_friction, kappa, whole_creep, whole_shrinkage, share_of, slip_loss}
@@ -65,8 +65,8 @@ module _ (choice : Choice) (q : Quantities) where
   abbrev pub end_at : ℕ → ℕ → End
   end_at moments hour = record {
     g = moment_stress moments q.eccentricity q.inertia;
-    creep = share_of (share_rows Share.Creep (since_transfer (hours_of q) service_life).0) (since_transfer (hours_of q) hour).0;
-    shrinkage = share_of (share_rows Share.Shrinkage (since_curing (hours_of q) service_life).0) (since_curing (hours_of q) hour).0;
+    creep = share_of (creep_rows (since_transfer (hours_of q) service_life).0) (since_transfer (hours_of q) hour).0;
+    shrinkage = share_of (shrinkage_rows (since_curing (hours_of q) service_life).0) (since_curing (hours_of q) hour).0;
     logarithm = choice.log (since_tensioning (hours_of q) hour).0;
   }
 

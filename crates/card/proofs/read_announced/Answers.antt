@@ -1,110 +1,32 @@
 -- `read_announced` meets its contract: the lines of segments, then those of ages behind them, then what is left. Assumes nothing.
-use mathlib.Core.Path.{◌≡◌}
-use mathlib.Core.List.{List}
-use Prim.Native.Nat.{ℕ, ◌+◌, ◌-◌, ◌*◌}
-use native.Mathlib.Omega.{arith}
-use lib.ListN.{length, take, drop, replicate, length-drop}
-use lib.Seq.{length-take-le}
-use borrow.Author.Rules.{rules}
-use borrow.Rule.Slice.PartMut.{mid_of}
-use Rattle.fields.specs.Quantities.{per_segment, per_age, first_segment_field}
-use Rattle.fields.specs.Limits.{most_segments, most_ages}
-use Rattle.fields.specs.Outcomes.{over}
-use Rattle.fields.proofs.Buffers.{tail}
-use Rattle.line.specs.declared.MayBeBlank.{MayBeBlank}
-use Rattle.line.specs.Lines.{Lines, read_lines}
-use Rattle.card.specs.Card.{first_segment_line}
-use Rattle.card.specs.Conditions.{AnnouncedFit}
-use Rattle.card.proofs.Outcome.{SegmentsRead, AgesRead, fields_taken, segment_bytes, segment_numbers}
-use Rattle.card.proofs.Outcome.{segment_wrong, segments_long, buffer_long, age_wrong, bytes_behind, all_announced}
+use Rattle.std.proofs.lemmas.Result.{err_from_is_err_and}
+use Rattle.card.proofs.Outcome.{segments_fit, segment_wrong, ages_fit, age_wrong, ends}
 use Rattle.card.proofs.read_announced.Goals as goal
 
-pub read_lines-wrong-requires : goal.read_lines-wrong-requires
-read_lines-wrong-requires c =
-    let count = fields_taken c.args.segments most_segments per_segment c.requires.segments_most in
-    let lines = length-take-le c.args.segments (replicate most_segments per_segment) c.requires.segments_most in
-    search rules
+pub read_lines-requires : goal.read_lines-requires
+read_lines-requires c = segments_fit c.requires
 
-abbrev segments_first : MayBeBlank → ℕ → List ℕ → Lines
-segments_first blank segments part =
-    read_lines blank (take segments (replicate most_segments per_segment)) first_segment_line first_segment_field part
+pub returns-in_err-read_lines : goal.returns-in_err-read_lines
+returns-in_err-read_lines c =
+    let error = err_from_is_err_and c.from_residual.result c.from_residual.ensures.1 in
+    let lines = c.in_err-read_lines.ensures in
+    let both = segment_wrong c.requires lines.fields_after lines.value in
+    record { value = rw (error.1, error.2) both.value; fields_after = both.fields_after }
 
-segments_read : {blank : MayBeBlank} {part old : List ℕ} {segments ages wrong : ℕ} {buffer : List ℕ} → AnnouncedFit segments ages old
-    → wrong ≡ (segments_first blank segments part).wrong → buffer ≡ over (segments_first blank segments part).numbers old
-    → SegmentsRead blank part old segments ages wrong buffer
-segments_read fits value after = record { fits = fits; read = (value, after) }
+pub read_lines-requires-2 : goal.read_lines-requires-2
+read_lines-requires-2 c = ages_fit c.requires c.in_ok-read_lines.ensures.fields_after c.in_ok-read_lines.ensures.value
 
-abbrev ages_behind : MayBeBlank → ℕ → ℕ → List ℕ → Lines
-ages_behind blank segments ages part =
-    read_lines blank (take ages (replicate most_ages per_age)) (first_segment_line + segments)
-    (first_segment_field + segment_numbers segments)
-    (take (length part - segment_bytes segments) (drop (segment_bytes segments) part))
-
-ages_read : (blank : MayBeBlank) (part : List ℕ) (segments ages : ℕ) (buffer : List ℕ) (wrong : ℕ) (after : List ℕ)
-    → wrong ≡ (ages_behind blank segments ages part).wrong
-    → after ≡ over (ages_behind blank segments ages part).numbers
-    (mid_of (segment_numbers segments) (length buffer - segment_numbers segments) buffer)
-    → AgesRead blank part segments ages buffer wrong after
-ages_read blank part segments ages buffer wrong after value is = record { read = (value, is) }
-
-pub returns-then-wrong-gt0 : goal.returns-then-wrong-gt0
-returns-then-wrong-gt0 c =
-    let lines = c.read_lines-wrong in
-    let both = segment_wrong (segments_read c.requires lines.ensures.value lines.ensures.fields_after) c.if-wrong-gt0.true in
-    record { value = both.0; fields_after = both.1 }
-
-pub slice_bounds-read_lines-count : goal.slice_bounds-read_lines-count
-slice_bounds-read_lines-count c =
-    let lines = c.read_lines-wrong in
-    segments_long (segments_read c.requires lines.ensures.value lines.ensures.fields_after) c.if-wrong-gt0.false
-
-pub slice_bounds-read_lines-start : goal.slice_bounds-read_lines-start
-slice_bounds-read_lines-start c = slice_bounds-read_lines-count c
-
-pub read_lines-wrong-requires-2 : goal.read_lines-wrong-requires-2
-read_lines-wrong-requires-2 c =
-    let segments = c.args.segments in
-    let ages = c.args.ages in
-    let first = c.read_lines-wrong in
-    let count = fields_taken ages most_ages per_age c.requires.ages_most in
-    let lines = length-take-le ages (replicate most_ages per_age) c.requires.ages_most in
-    let same = buffer_long (segments_read c.requires first.ensures.value first.ensures.fields_after) c.if-wrong-gt0.false in
-    record {
-      room = rw (tail first.new.fields (per_segment * segments)) (simp length-drop (omega arith));
-      numbered = omega arith;
-      some_line = omega arith;
-      lines_numbered = omega arith;
-    }
-
-pub returns-then-wrong-gt0-2 : goal.returns-then-wrong-gt0-2
-returns-then-wrong-gt0-2 c =
-    let first = c.read_lines-wrong in
-    let second = c.read_lines-wrong-2 in
-    let both = age_wrong
-    (segments_read c.requires first.ensures.value first.ensures.fields_after) c.if-wrong-gt0.false
-    (ages_read c.args.blank c.args.part.now c.args.segments c.args.ages first.new.fields second.result second.new.fields
-    second.ensures.value second.ensures.fields_after)
-    c.if-wrong-gt0-2.true in
-    record { value = both.0; fields_after = both.1 }
-
-pub returns-then-at-ages : goal.returns-then-at-ages
-returns-then-at-ages c =
-    let first = c.read_lines-wrong in
-    let second = c.read_lines-wrong-2 in
-    let both = bytes_behind
-    (segments_read c.requires first.ensures.value first.ensures.fields_after) c.if-wrong-gt0.false
-    (ages_read c.args.blank c.args.part.now c.args.segments c.args.ages first.new.fields second.result second.new.fields
-    second.ensures.value second.ensures.fields_after)
-    c.if-wrong-gt0-2.false c.if-at-ages.true in
-    record { value = both.0; fields_after = both.1 }
+pub returns-in_err-read_lines-2 : goal.returns-in_err-read_lines-2
+returns-in_err-read_lines-2 c =
+    let error = err_from_is_err_and c.from_residual-in_err-read_lines-2.result c.from_residual-in_err-read_lines-2.ensures.1 in
+    let lines = c.in_err-read_lines-2.ensures in
+    let both =
+    age_wrong c.requires c.in_ok-read_lines.ensures.fields_after c.in_ok-read_lines.ensures.value lines.fields_after lines.value in
+    record { value = rw (error.1, error.2) both.value; fields_after = both.fields_after }
 
 pub returns : goal.returns
 returns c =
-    let first = c.read_lines-wrong in
-    let second = c.read_lines-wrong-2 in
-    let both = all_announced
-    (segments_read c.requires first.ensures.value first.ensures.fields_after) c.if-wrong-gt0.false
-    (ages_read c.args.blank c.args.part.now c.args.segments c.args.ages first.new.fields second.result second.new.fields
-    second.ensures.value second.ensures.fields_after)
-    c.if-wrong-gt0-2.false c.if-at-ages.false in
-    record { value = both.0; fields_after = both.1 }
+    let lines = c.in_ok-read_lines-2.ensures in
+    let both =
+    ends c.requires c.in_ok-read_lines.ensures.fields_after c.in_ok-read_lines.ensures.value lines.fields_after lines.value c.end.ensures in
+    record { value = both.value; fields_after = both.fields_after }

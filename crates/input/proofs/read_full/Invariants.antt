@@ -1,9 +1,13 @@
--- `read_full` ends, since each turn leaves less to fill.
-use Rattle.std.specs.Prelude.{◌-◌, ◌≤◌, length}
+-- `read_full` ends, since each turn leaves less to fill; and what it has filled is what it has taken from the reader.
+use Rattle.std.specs.Prelude.{◌-◌, ◌≡◌, ◌≤◌, length, take}
+use Rattle.std.specs.Io.KnownBytes.{Consumes}
 use Rattle.input.proofs.read_full.Given as goal
 
 abbrev pub invariant-loop-done : goal.invariant-loop-done
-invariant-loop-done g l = l.done ≤ length l.buffer
+invariant-loop-done g l =
+    (length l.buffer ≡ length l.initial.buffer)
+    × (l.done ≤ length l.buffer)
+    × Consumes (g.R.Read.remaining l.initial.reader) (g.R.Read.remaining l.reader) (take l.done l.buffer)
 
 abbrev pub decreases-loop-done : goal.decreases-loop-done
 decreases-loop-done g l = length l.initial.buffer - l.done

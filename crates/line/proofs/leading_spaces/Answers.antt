@@ -1,13 +1,17 @@
--- `leading_spaces` meets its contract. The loop's invariant: every column passed is a space, so that the spaces of the field are
--- the columns passed and the spaces behind them. Assumes nothing.
-use Rattle.line.proofs.Fields.{a_space, no_space, all_spaces}
+-- `leading_spaces` meets its contract: the first byte that is no space, or the end, is found at as many spaces. Assumes nothing.
+use mathlib.Core.Path.{◌≡◌, ap, ◌∙◌}
+use lib.ListN.{length}
+use borrow.Author.Tests.{tests}
+use Rattle.std.proofs.Common.{rules}
+use Rattle.std.specs.List.{position}
+use Rattle.std.specs.Option.{unwrap_or}
+use Rattle.std.proofs.lemmas.Iterator.{YieldsList-from_slice}
+use Rattle.std.proofs.lemmas.Iterator.Search.{position_from_yields_List}
+use Rattle.line.proofs.Fields.{no_space, first_written}
 use Rattle.line.proofs.leading_spaces.Goals as goal
 
-pub returns-then-part-column-ne-SPACE : goal.returns-then-part-column-ne-SPACE
-returns-then-part-column-ne-SPACE c = no_space c.loop-column.invariant c.loop-column-test.true c.if-part-column-ne-SPACE.true
-
-pub loop-column-preserved : goal.loop-column-preserved
-loop-column-preserved c = a_space c.loop-column.invariant c.loop-column-test.true c.if-part-column-ne-SPACE.false
-
 pub returns : goal.returns
-returns c = all_spaces c.loop-column.invariant c.loop-column-test.false
+returns c =
+    let found : c.position.result ≡ position no_space c.args.field.now =
+    position_from_yields_List no_space _ _ _ c.position.ensures.ran (YieldsList-from_slice _ c.iter.ensures.rest) (λ x b q k. search (rules, tests)) in
+    c.unwrap_or.ensures ∙ ap (λ r. unwrap_or r (length c.args.field.now)) found ∙ first_written c.args.field.now

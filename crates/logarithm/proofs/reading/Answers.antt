@@ -1,67 +1,67 @@
--- The search by halves finds the logarithm: it is no less than what is reached, and the range of k may end before what is beyond.
--- Assumes nothing.
-use mathlib.Core.Path.{◌≡◌, refl, ◌∙◌}
+-- The thresholds rise, so that an hour parts them into those that it reaches and those that it doesn't: the last that it reaches stands
+-- at its logarithm. Assumes nothing.
+use mathlib.Core.Path.{◌≡◌}
+use mathlib.Core.Bool.{true}
 use mathlib.Core.List.{List}
-use Prim.Native.Nat.{ℕ, suc, ◌-◌, ◌≤◌, ◌<◌}
-use lib.ListN.{get_or}
-use native.Mathlib.Nat.{pow-le-pow_left, le_trans}
+use mathlib.Core.Logic.{⊎_elim}
+use Prim.Native.Nat.{ℕ, zero, suc, ◌-◌, ◌^◌, ◌≤◌, ◌<◌}
+use native.Mathlib.Nat.{le_trans, pow-le-pow_left, pow-le-pow_right}
 use native.Mathlib.Omega.{arith}
-use Rattle.logarithm.specs.Largest.{largest_up_to}
+use lib.Dec.{lit<, leb}
+use lib.ListN.{length, get_or}
+use borrow.Author.Rules.{rules}
+use borrow.Author.Tests.{leb-true, leb-false}
+use Rattle.std.proofs.lemmas.Bool.{cases_lt}
+use Rattle.std.specs.List.Sorted.{IsNonDecreasingBy}
+use Rattle.std.proofs.lemmas.List.Sorted.{IsNonDecreasingBy-from_default, IsPartitionedBy-leb, IsPartitionPoint-from_clause}
 use Rattle.logarithm.specs.Logarithm.{power, last_threshold, reaches, logarithm}
 use Rattle.logarithm.specs.Table.{IsTable}
-use Rattle.logarithm.proofs.Largest.{no_more, no_less, cut}
-use Rattle.logarithm.proofs.Laws.{hour_reaches, beyond as lies_beyond}
-use Rattle.logarithm.proofs.reading.Invariants.{Between}
+use Rattle.logarithm.proofs.Largest.{at_most, no_less}
+use Rattle.logarithm.proofs.Laws.{hour_reaches}
 use Rattle.logarithm.proofs.reading.Goals as goal
 
-begins : (hour : ℕ) → Between hour 0 1537
-unfolding logarithm
-begins hour = record { order = omega arith; end = omega arith; least = omega arith; most = refl }
+module _ (thresholds : List ℕ) (t : IsTable thresholds) where
+  rises : IsNonDecreasingBy (λ (hour : ℕ). hour) thresholds
+  rises = IsNonDecreasingBy-from_default (λ (hour : ℕ). hour) thresholds 0 rise
+    where
+      rise : (i j : ℕ) → i ≤ j → j < length thresholds → get_or thresholds i 0 ≤ get_or thresholds j 0
+      rise i j h l =
+          let entries = t.entries in
+          let smallest = (t.threshold i (omega arith)).smallest (get_or thresholds j 0) in
+          grind (arith, (t.threshold j (omega arith)).reached, pow-le-pow_right {n = 10} (lit< tt) h)
 
-module _ (hour reached beyond middle : ℕ) (b : Between hour reached beyond) (above : reached < middle) (below : middle < beyond)
-    (thresholds : List ℕ) (t : IsTable thresholds) where
-  up : get_or thresholds middle 0 ≤ hour → Between hour middle beyond
-  unfolding logarithm
-  up h = record {
-    order = below;
-    end = b.end;
-    most = b.most;
-    least = no_less (reaches hour) last_threshold middle (let e = b.end in omega arith)
-        (hour_reaches hour middle (le_trans (t.threshold middle (let e = b.end in omega arith)).reached (pow-le-pow_left h power)));
-  }
+  module _ (hour : ℕ) where
+    below : (k : ℕ) → k ≤ last_threshold → reaches hour k ≡ true → get_or thresholds k 0 ≤ hour
+    below k within passes =
+        let smallest = (t.threshold k within).smallest hour in grind (arith, leb-true (10 ^ k) (hour ^ power) passes)
 
-  down : hour < get_or thresholds middle 0 → Between hour reached middle
-  down h = record {
-    order = above;
-    end = let e = b.end in omega arith;
-    least = b.least;
-    most = b.most ∙ cut (reaches hour) (beyond - 1) (middle - 1) (omega arith)
-        (lies_beyond hour (middle - 1)
-        (let e : suc (middle - 1) ≡ middle = omega arith in
-        rw e ((t.threshold middle (let e = b.end in omega arith)).smallest hour h)));
-  }
+    least : (beyond : ℕ) → beyond ≤ length thresholds → ((k : ℕ) → k < beyond → get_or thresholds k 0 ≤ hour)
+        → beyond - 1 ≤ logarithm hour
+    unfolding logarithm
+    least zero within reached = omega arith
+    least (suc k) within reached =
+        let entries = t.entries in
+        let low = le_trans (t.threshold k (omega arith)).reached (pow-le-pow_left (reached k (omega arith)) power) in
+        let same : suc k - 1 ≡ k = omega arith in
+        rw same (no_less (reaches hour) last_threshold k (omega arith) (hour_reaches hour k low))
 
-ends : (hour reached beyond : ℕ) → Between hour reached beyond → beyond - reached ≤ 1 → reached ≡ logarithm hour
-ends hour reached beyond b h =
-    let o = b.order in
-    let l = b.least in
-    let e : beyond - 1 ≡ reached = omega arith in
-    let m : logarithm hour ≡ largest_up_to reached (reaches hour) = rw e at b.most in
-    let n = no_more (reaches hour) reached in
-    omega arith
-
-pub loop-beyond-init : goal.loop-beyond-init
-loop-beyond-init c = begins c.args.hour
-
-pub loop-beyond-preserved-then-thresholds-middle : goal.loop-beyond-preserved-then-thresholds-middle
-loop-beyond-preserved-then-thresholds-middle c =
-    let at = c.loop-beyond in
-    up _ _ _ _ at.invariant (omega arith) (omega arith) _ c.requires c.if-thresholds-middle.true
-
-pub loop-beyond-preserved : goal.loop-beyond-preserved
-loop-beyond-preserved c =
-    let at = c.loop-beyond in
-    down _ _ _ _ at.invariant (omega arith) (omega arith) _ c.requires c.if-thresholds-middle.false
+    most : (beyond : ℕ) → ((k : ℕ) → beyond ≤ k → k < length thresholds → hour < get_or thresholds k 0)
+        → logarithm hour ≤ beyond - 1
+    unfolding logarithm
+    most beyond not_reached =
+        let entries = t.entries in
+        at_most (reaches hour) last_threshold (beyond - 1)
+        (λ k within passes.
+        ⊎_elim (λ (before : k < beyond). omega arith)
+        (λ more. omega (arith, not_reached k more (omega arith), below k within passes)) (cases_lt k beyond))
 
 pub returns : goal.returns
-returns c = ends _ _ _ c.loop-beyond.invariant c.loop-beyond-test.false
+returns c =
+    let hour = c.args.hour in
+    let thresholds = c.thresholds.result.now in
+    let table = c.thresholds.ensures in
+    let point = c.partition_point-beyond.ensures in
+    let parts = IsPartitionPoint-from_clause (λ threshold. leb threshold hour) thresholds _ point.partitioned
+    (IsPartitionedBy-leb (λ threshold. threshold) thresholds hour (rises thresholds table)) (λ a r f' ran. search rules) in
+    let most = most thresholds table hour _ (λ k from to. leb-false _ _ (parts.1 k 0 from to)) in
+    omega (arith, least thresholds table hour _ point.bound (λ k to. leb-true _ _ (parts.0 k 0 (omega arith) to)))

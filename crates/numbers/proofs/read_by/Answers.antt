@@ -2,7 +2,7 @@
 -- Assumes nothing.
 use mathlib.Core.Path.{ap, ◌∙◌}
 use Rattle.fields.specs.Outcomes.{Outcome, over}
-use Rattle.numbers.proofs.ListBytes.{read_outcome}
+use Rattle.numbers.proofs.FirstDoubles.{read_outcome}
 use Rattle.numbers.proofs.read_by.Goals as goal
 
 pub returns : goal.returns

@@ -1,11 +1,6 @@
 -- The doubles so far stand for the list's first numbers; a turn reads the next eight bytes. Assumes nothing.
-use Prim.Native.Nat.{◌-◌}
-use lib.ListN.{length}
 use Rattle.numbers.proofs.Bytes.{Decoded}
 use Rattle.numbers.proofs.read_doubles.Given as goal
 
 abbrev pub invariant-loop-read : goal.invariant-loop-read
 invariant-loop-read l = Decoded l.list l.initial.doubles l.doubles l.read
-
-abbrev pub decreases-loop-read : goal.decreases-loop-read
-decreases-loop-read l = length l.initial.doubles - l.read

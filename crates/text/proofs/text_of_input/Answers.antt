@@ -1,10 +1,18 @@
--- The buffer holds more bytes than the longest good card has, and the text lies within its own. Assumes nothing.
-use borrow.Author.Rules.{rules}
+-- The bytes that were read are the first of the input, all or more than the longest good card has: their text is the input's. Assumes
+-- nothing.
+use native.Mathlib.Omega.{arith}
+use Rattle.std.proofs.lemmas.List.{take_min}
 use Rattle.text.proofs.Laying.{counted}
+use Rattle.text.proofs.Texts.{input_text}
 use Rattle.text.proofs.text_of_input.Goals as goal
 
-pub put_input-requires : goal.put_input-requires
-put_input-requires c = record { more = search rules; room = search rules }
-
 pub returns : goal.returns
-returns c = record { prints_all = c.put_input.ensures; counted = counted c.put_input.ensures.exact }
+returns c =
+    let holds = rw (c.min-bytes.ensures, ← c.told-buffer, take_min c.args.read c.args.buffer.now) at c.put_card.ensures in
+    record {
+      prints_all = record {
+        exact = holds;
+        whole = λ input. input_text c.args.program c.args.buffer.now _ input (omega arith);
+      };
+      counted = counted holds;
+    }

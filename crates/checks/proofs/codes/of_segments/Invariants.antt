@@ -1,23 +1,17 @@
--- At the loop's head the row's place is the one that the segments left give. A turn makes the first of their checks. Assumes
--- nothing.
+-- At the loop's head the row gives what the segments that are left give. Assumes nothing.
 use mathlib.Core.Path.{◌≡◌}
-use mathlib.Core.List.{List}
-use Prim.Native.Nat.{ℕ, ◌+◌, ◌-◌, ◌*◌, ◌≤◌}
-use Rattle.fields.specs.Quantities.{per_segment, segments_from}
-use Rattle.checks.specs.Rows.{Check, first_failing, segment_codes}
-use Rattle.checks.proofs.Items.{left_segments}
+use Prim.Native.Nat.{◌+◌, ◌*◌, ◌<◌, ◌^◌}
+use lib.ListN.{length}
+use Rattle.fields.specs.Quantities.{per_segment, segments_of}
+use Rattle.checks.specs.Rows.{checked, segment_codes}
 use Rattle.checks.proofs.codes.of_segments.Given as goal
-
-abbrev pub row_of : List ℕ → ℕ → ℕ → ℕ
-row_of list n place = first_failing (segment_codes place (segments_from n list))
-
--- the row from the segment `k` on
-abbrev pub left : List ℕ → ℕ → ℕ → ℕ → List Check
-left list n place k = segment_codes (place + per_segment * k) (left_segments list n k)
 
 abbrev pub invariant-loop-segment : goal.invariant-loop-segment
 invariant-loop-segment l =
-    (l.segment ≤ l.segments) × (row_of l.part l.segments l.place ≡ first_failing (left l.part l.segments l.place l.segment))
-
-abbrev pub decreases-loop-segment : goal.decreases-loop-segment
-decreases-loop-segment l = l.segments - l.segment
+    let here = l.place + per_segment * l.segment-iterator.count in
+    let rest = l.segment-iterator.iter.rest.now in
+    record {
+      size : l.segment-iterator.iter.size ≡ per_segment;
+      places_fit : here + length rest < 2 ^ 64;
+      same : checked (segment_codes l.place (segments_of l.path)) ≡ checked (segment_codes here (segments_of rest));
+    }

@@ -1,23 +1,17 @@
--- At the loop's head the row's place is the one that the ages left give, from the hour before them. A turn makes the first of
--- their checks. Assumes nothing.
+-- At the loop's head the row gives what the ages that are left give, from the hour before them. Assumes nothing.
 use mathlib.Core.Path.{◌≡◌}
-use mathlib.Core.List.{List}
-use Prim.Native.Nat.{ℕ, ◌+◌, ◌-◌, ◌*◌, ◌≤◌}
-use Rattle.fields.specs.Quantities.{per_age, ages_from}
-use Rattle.checks.specs.Rows.{Check, first_failing, hours_of_ages}
-use Rattle.checks.proofs.Items.{left_ages}
+use Prim.Native.Nat.{◌+◌, ◌*◌, ◌<◌, ◌^◌}
+use lib.ListN.{length}
+use Rattle.fields.specs.Quantities.{per_age, ages_of}
+use Rattle.checks.specs.Rows.{checked, hours_of_ages}
 use Rattle.checks.proofs.hours.of_ages.Given as goal
-
-abbrev pub row_of : List ℕ → ℕ → ℕ → ℕ → ℕ
-row_of list n place before = first_failing (hours_of_ages place before (ages_from n list))
-
--- the row from the age `k` on, `earlier` being the hour of the one before it
-abbrev pub left : List ℕ → ℕ → ℕ → ℕ → ℕ → List Check
-left list n place earlier k = hours_of_ages (place + per_age * k) earlier (left_ages list n k)
 
 abbrev pub invariant-loop-age : goal.invariant-loop-age
 invariant-loop-age l =
-    (l.age ≤ l.ages) × (row_of l.part l.ages l.place l.before ≡ first_failing (left l.part l.ages l.place l.earlier l.age))
-
-abbrev pub decreases-loop-age : goal.decreases-loop-age
-decreases-loop-age l = l.ages - l.age
+    let here = l.place + per_age * l.age-iterator.count in
+    let rest = l.age-iterator.iter.rest.now in
+    record {
+      size : l.age-iterator.iter.size ≡ per_age;
+      places_fit : here + length rest < 2 ^ 64;
+      same : checked (hours_of_ages l.place l.before (ages_of l.ages)) ≡ checked (hours_of_ages here l.earlier (ages_of rest));
+    }

@@ -1,42 +1,27 @@
 -- The rows are made in their order: 13, the duct, the room. Assumes nothing.
-use mathlib.Core.Path.{◌≡◌, sym, ap, ◌∙◌}
-use mathlib.Core.List.{[], ◌∷◌}
-use lib.ListN.{length, drop}
-use Rattle.fields.specs.Given.{number_given}
-use Rattle.fields.specs.Quantities.{head_fields, Quantities, quantities_of}
-use Rattle.fields.proofs.Laws.{segments_length}
-use Rattle.checks.specs.Rows.{checked_by}
-use Rattle.elongation.specs.Sheet.{room_row, below_hours}
-use Rattle.elongation.proofs.Passing.{kind_refuses, below_kind, below_duct, room_refuses, room_holds}
+use mathlib.Core.Path.{◌≡◌, sym, ◌∙◌}
+use borrow.Author.Rules.{rules}
+use Rattle.std.specs.Prelude.{Err}
+use Rattle.elongation.proofs.Counting.{path_count}
+use Rattle.elongation.proofs.Passing.{kind_refuses, below_kind, room_refuses, room_holds}
 use Rattle.elongation.proofs.checking.check_below_hours.Goals as goal
 
-pub returns-then-fields-eq-PRETENSIONED : goal.returns-then-fields-eq-PRETENSIONED
-returns-then-fields-eq-PRETENSIONED c =
-    let quantities : Quantities = quantities_of c.args.segments 0 c.args.fields.now in
-    kind_refuses quantities _ c.if-fields-eq-PRETENSIONED.true
+pub returns-then-is_pretensioned : goal.returns-then-is_pretensioned
+returns-then-is_pretensioned c =
+    kind_refuses c.args.fields.now c.args.room (sym c.is_pretensioned.ensures ∙ c.if-is_pretensioned.true)
 
-pub returns-in-Refused : goal.returns-in-Refused
-returns-in-Refused c =
-    let quantities : Quantities = quantities_of c.args.segments 0 c.args.fields.now in
-    below_duct quantities c.args.room (sym (ap number_given c.in-Refused.is) ∙ c.check_duct.ensures)
-    ∙ below_kind quantities c.args.room c.if-fields-eq-PRETENSIONED.false
+pub returns-in_err-check_duct : goal.returns-in_err-check_duct
+returns-in_err-check_duct c =
+    let refusal : c.from_residual.result ≡ Err c.in_err-check_duct.field-0.0 = search rules in
+    refusal
+    ∙ below_kind c.args.fields.now c.args.room (sym c.is_pretensioned.ensures ∙ c.if-is_pretensioned.false) c.in_err-check_duct.ensures
 
-pub returns-then-room-segments : goal.returns-then-room-segments
-returns-then-room-segments c =
-    let quantities : Quantities = quantities_of c.args.segments 0 c.args.fields.now in
-    let count : length quantities.path ≡ c.args.segments = segments_length c.args.segments (drop head_fields c.args.fields.now) in
-    let above_room : checked_by {A = Unit {0}} (room_row quantities c.args.room ∷ []) tt
-    ≡ checked_by {A = Unit {0}} (below_hours quantities c.args.room) tt =
-    below_duct quantities c.args.room (sym (ap number_given c.in_default.is) ∙ c.check_duct.ensures)
-    ∙ below_kind quantities c.args.room c.if-fields-eq-PRETENSIONED.false in
-    room_refuses quantities c.args.room (rw count c.if-room-segments.true) ∙ above_room
+pub returns-then-room-fields : goal.returns-then-room-fields
+returns-then-room-fields c =
+    room_refuses c.args.fields.now c.args.room (rw (path_count _ _ c.fields.view_is) c.if-room-fields.true)
+    ∙ below_kind c.args.fields.now c.args.room (sym c.is_pretensioned.ensures ∙ c.if-is_pretensioned.false) c.in_ok-check_duct.ensures
 
 pub returns : goal.returns
 returns c =
-    let quantities : Quantities = quantities_of c.args.segments 0 c.args.fields.now in
-    let count : length quantities.path ≡ c.args.segments = segments_length c.args.segments (drop head_fields c.args.fields.now) in
-    let above_room : checked_by {A = Unit {0}} (room_row quantities c.args.room ∷ []) tt
-    ≡ checked_by {A = Unit {0}} (below_hours quantities c.args.room) tt =
-    below_duct quantities c.args.room (sym (ap number_given c.in_default.is) ∙ c.check_duct.ensures)
-    ∙ below_kind quantities c.args.room c.if-fields-eq-PRETENSIONED.false in
-    room_holds quantities c.args.room (rw count c.if-room-segments.false) ∙ above_room
+    room_holds c.args.fields.now c.args.room (rw (path_count _ _ c.fields.view_is) c.if-room-fields.false)
+    ∙ below_kind c.args.fields.now c.args.room (sym c.is_pretensioned.ensures ∙ c.if-is_pretensioned.false) c.in_ok-check_duct.ensures

@@ -1,14 +1,12 @@
--- The invariant is `Stretching`: the elongations of the segments before are in the sheet. A turn brings one more, and the last turn all. The
--- measure is how many segments are left. Assumes nothing.
-use Prim.Native.Nat.{◌-◌}
-use Rattle.fields.specs.Quantities.{quantities_of}
-use Rattle.elongation.proofs.Walk.{Stretching}
+-- The elongations of the segments before are in the sheet, and the fields of the others are left. Assumes nothing.
+use Rattle.std.specs.Iterator.Adapters.{enumerate_source, enumerate_count}
+use Rattle.std.specs.Slice.Iter.{chunks_exact_rest, chunks_exact_size}
+use Rattle.elongation.proofs.Walk.{Left, Stretching}
 use Rattle.elongation.proofs.stretching.stretch.Given as goal
 
-abbrev pub invariant-loop-segment : goal.invariant-loop-segment
-invariant-loop-segment l =
-    Stretching (quantities_of l.segments 0 l.fields) l.initial.sheet l.sheet l.friction l.before l.sum l.segment
-
-abbrev pub decreases-loop-segment : goal.decreases-loop-segment
-decreases-loop-segment l =
-    l.segments - l.segment
+abbrev pub invariant-loop-place : goal.invariant-loop-place
+invariant-loop-place l = record {
+  left : Left l.fields.path (chunks_exact_size (enumerate_source l.place-iterator)) (enumerate_count l.place-iterator)
+      (chunks_exact_rest (enumerate_source l.place-iterator));
+  stretching : Stretching l.fields l.initial.sheet l.sheet l.friction l.before l.sum (enumerate_count l.place-iterator);
+}

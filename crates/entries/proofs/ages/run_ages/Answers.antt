@@ -1,93 +1,77 @@
--- The invariant is `Progress`: the rows of the ages before stand in the scratch, and the ages from here on decide the rest. An age
--- that is passed keeps it; the loop ends with the last age, or where one is refused. Assumes nothing.
+-- The fields of the age at hand stand before those of the ages that are left; an age that is passed keeps the invariant; the loop ends
+-- behind the last age, or where one is refused. Assumes nothing.
+use mathlib.Core.Path.{◌≡◌, sym, ◌∙◌}
+use mathlib.Core.List.{◌∷◌}
 use native.Mathlib.Omega.{arith}
-use Rattle.checks.proofs.Items.{age_at}
+use Rattle.std.proofs.Common.{rules}
+use Rattle.std.proofs.lemmas.Result.{err_from_is_err_and}
+use Rattle.fields.specs.Quantities.{ages_of}
+use Rattle.checks.proofs.Items.{no_age}
 use Rattle.stages.proofs.Clocks.{end_bounded}
-use Rattle.entries.proofs.Running.{begins, ends, moments_most, hour_fits, row_within, room_for_row, stops, turns}
+use Rattle.entries.proofs.BufferRows.{part_room}
+use Rattle.entries.proofs.Running.{begins, next_left, moments_most, hour_fits, row_within, stops, turns, ends}
 use Rattle.entries.proofs.ages.run_ages.Goals as goal
+use Rattle.entries.proofs.ages.run_ages.Goals.{After-at-age}
 
 pub loop-passed-init : goal.loop-passed-init
 loop-passed-init c =
     let args = c.args in
-    begins args.m args.fields.now args.thresholds.now args.transfer args.stress args.scratch.now c.requires
+    let items = c.enumerate-passed-items.ensures in
+    record {
+      size = search rules;
+      progress =
+          rw (c.into_iter-passed-iterator.ensures.into_iter_gives, items.count, items.source, c.chunks_exact.ensures.rest)
+          (begins args.m.member (ages_of args.ages.now) args.transfer args.stress args.scratch.now c.requires);
+    }
 
-pub bounds-fields-field : goal.bounds-fields-field
-bounds-fields-field c = let listed = c.requires.ages_fit.listed in omega arith
+next : (c : After-at-age)
+    → ages_of c.loop-passed.passed-iterator.iter.rest.now ≡ c.at-age.result ∷ ages_of c.next.new.self.iter.rest.now
+next c =
+    let step = c.in-Some.ensures.steps in
+    next_left c.in-Some.part.now c.next.new.self.iter.rest.now step.0.1.0 step.0.1.1 c.loop-passed.invariant.size c.at-age.ensures
 
-pub overflow_cast-hour : goal.overflow_cast-hour
-overflow_cast-hour c = record { fits = hour_fits c.loop-passed.invariant c.loop-passed-test.true }
+pub overflow_add-moments : goal.overflow_add-moments
+overflow_add-moments c =
+    omega (arith, moments_most c.loop-passed.invariant.progress _ _ (next (goal.at.overflow_add-moments c).After-at-age))
 
-pub bounds-fields-field-in-loop-passed : goal.bounds-fields-field-in-loop-passed
-bounds-fields-field-in-loop-passed c = let listed = c.requires.ages_fit.listed in omega arith
-
-pub overflow_add-moments-in-loop-passed : goal.overflow_add-moments-in-loop-passed
-overflow_add-moments-in-loop-passed c =
-    let moments_within = moments_most c.loop-passed.invariant c.loop-passed-test.true in
-    omega (arith, moments_within)
+pub overflow_cast-age : goal.overflow_cast-age
+overflow_cast-age c = record { fits = hour_fits c.loop-passed.invariant.progress _ _ (next (goal.at.overflow_cast-age c).After-at-age) }
 
 pub end_at-end-requires : goal.end_at-end-requires
 end_at-end-requires c =
-    let moments_within = moments_most c.loop-passed.invariant c.loop-passed-test.true in
-    let asked = c.requires in
-    record { member = asked.ages_fit.bounded; table = asked.thresholds_are; moments_fit = moments_within }
+    let within = moments_most c.loop-passed.invariant.progress _ _ (next (goal.at.end_at-end-requires c).After-at-age) in omega (arith, within)
 
-pub pass-requires : goal.pass-requires
-pass-requires c =
-    let moments_within = moments_most c.loop-passed.invariant c.loop-passed-test.true in
-    record {
-      member = c.requires.ages_fit.bounded;
-      stress_fits = c.loop-passed.invariant.stress_fits;
-      end_fits =
-          let hour = (age_at c.args.fields.now c.loop-passed.passed).hour in
-          rw c.end_at-end.ensures (end_bounded c.args.m _ hour c.requires.ages_fit.bounded moments_within);
-    }
+pub invariant_of-interval : goal.invariant_of-interval
+invariant_of-interval c =
+    let within = moments_most c.loop-passed.invariant.progress _ _ (next (goal.at.invariant_of-interval c).After-at-age) in
+    record { bounded = rw c.end_at-end.ensures (end_bounded c.args.m.member _ _ c.args.m.bounded within) }
 
-pub shape_of-scratch-in-Refused : goal.shape_of-scratch-in-Refused
-shape_of-scratch-in-Refused c = c.loop-passed.invariant.kept
-
-pub returns-in-Refused : goal.returns-in-Refused
-returns-in-Refused c =
-    stops c.loop-passed.invariant c.loop-passed-test.true _ c.end_at-end.ensures
-    _ c.pass.ensures _ c.in-Refused.is
-
-pub overflow_mul-at : goal.overflow_mul-at
-overflow_mul-at c =
-    omega (arith, row_within c.loop-passed.invariant c.loop-passed-test.true)
-
-pub offset_bounds-scratch-at : goal.offset_bounds-scratch-at
-offset_bounds-scratch-at c =
-    omega (arith, row_within c.loop-passed.invariant c.loop-passed-test.true)
-
-pub slice_bounds-write_row-count : goal.slice_bounds-write_row-count
-slice_bounds-write_row-count c =
-    omega (arith, row_within c.loop-passed.invariant c.loop-passed-test.true)
-
-pub slice_bounds-write_row-start : goal.slice_bounds-write_row-start
-slice_bounds-write_row-start c =
-    omega (arith, row_within c.loop-passed.invariant c.loop-passed-test.true)
-
-pub slice_bounds-write_row-end : goal.slice_bounds-write_row-end
-slice_bounds-write_row-end c =
-    omega (arith, row_within c.loop-passed.invariant c.loop-passed-test.true)
+pub returns-in_err-row : goal.returns-in_err-row
+returns-in_err-row c =
+    let refused = err_from_is_err_and c.from_residual.result c.from_residual.ensures.1 in
+    rw (refused.1, refused.2)
+    (stops c.loop-passed.invariant.progress _ _ (next (goal.at.returns-in_err-row c).After-at-age) _ c.end_at-end.ensures _
+    (rw c.in-Some.ensures.steps.1 at (sym c.in_err-row.ensures)))
 
 pub write_row-requires : goal.write_row-requires
 write_row-requires c =
-    room_for_row c.loop-passed.invariant c.loop-passed-test.true
-
-pub overflow_add-passed-in-loop-passed : goal.overflow_add-passed-in-loop-passed
-overflow_add-passed-in-loop-passed c =
-    let more = c.loop-passed-test.true in
-    let few = c.requires.ages_fit.bounded.ages_fit in
-    omega arith
+    rw c.numbers.ensures
+    (part_room c.loop-passed.scratch _
+    (rw c.in-Some.ensures.steps.1
+    (row_within c.loop-passed.invariant.progress _ _ (next (goal.at.write_row-requires c).After-at-age))))
 
 pub loop-passed-preserved : goal.loop-passed-preserved
 loop-passed-preserved c =
-    turns c.loop-passed.invariant c.loop-passed-test.true _ c.end_at-end.ensures
-    _ c.pass.ensures _ c.in-By.is _ c.write_row.ensures
-    c.requires.ages_fit.bounded
-
-pub shape_of-scratch : goal.shape_of-scratch
-shape_of-scratch c = c.loop-passed.invariant.kept
+    let step = c.in-Some.ensures.steps in
+    record {
+      size = step.0.0 ∙ c.loop-passed.invariant.size;
+      progress =
+          rw (c.write_row.ensures, c.numbers.ensures, step.1, step.2)
+          (turns c.loop-passed.invariant.progress _ _ (next (goal.at.loop-passed-preserved c).After-at-age) _ c.end_at-end.ensures _
+          (rw step.1 at (sym c.in_ok-row.ensures)) c.args.m.bounded);
+    }
 
 pub returns : goal.returns
-returns c = ends c.loop-passed.invariant c.loop-passed-test.false
+returns c =
+    let invariant = c.loop-passed.invariant in
+    ends invariant.progress (no_age _ (rw invariant.size at c.in-None.ensures.steps.0.1.0))

@@ -1,12 +1,16 @@
--- The invariant is `Progress`: the rows of the ages before stand in the scratch, and the ages from here on decide the rest. An age
--- that is passed keeps it; the loop ends with the last age, or where one is refused. Assumes nothing.
-use Prim.Native.Nat.{◌-◌}
+-- The invariant is `Progress`: the rows of the ages before stand in the scratch, and the ages that are left decide the rest. Assumes
+-- nothing.
+use mathlib.Core.Path.{◌≡◌}
+use Rattle.fields.specs.Quantities.{per_age, ages_of}
 use Rattle.entries.proofs.Running.{Progress}
 use Rattle.entries.proofs.ages.run_ages.Given as goal
 
 abbrev pub invariant-loop-passed : goal.invariant-loop-passed
 invariant-loop-passed l =
-    Progress l.m l.fields l.stress-2 l.initial.scratch l.scratch l.stress l.start l.passed
-
-abbrev pub decreases-loop-passed : goal.decreases-loop-passed
-decreases-loop-passed l = l.ages - l.passed
+    let fields = l.passed-iterator.iter in
+    record {
+      size : fields.size ≡ per_age;
+      progress :
+          Progress l.m.member (ages_of l.ages) l.initial.stress l.initial.scratch l.scratch l.stress l.start l.passed-iterator.count
+          (ages_of fields.rest.now);
+    }

@@ -1,11 +1,15 @@
--- The invariant is `Reported`: the rows of the ages before are in the report. A turn brings one more, and the last turn all. Assumes
--- nothing.
-use Prim.Native.Nat.{◌-◌}
+-- The invariant is `Reported`: the rows before the one at hand are in the report, and those from it on are left. Assumes nothing.
+use mathlib.Core.Path.{◌≡◌}
+use lib.ListN.{take}
+use Rattle.fields.specs.Limits.{per_row, scratch_room}
 use Rattle.entries.proofs.BufferRows.{Reported}
 use Rattle.entries.proofs.rows.report_rows.Given as goal
 
 abbrev pub invariant-loop-number : goal.invariant-loop-number
-invariant-loop-number l = Reported l.ages l.scratch l.initial.report l.report l.at l.number
-
-abbrev pub decreases-loop-number : goal.decreases-loop-number
-decreases-loop-number l = l.ages - l.number
+invariant-loop-number l =
+    let items = l.number-iterator.iter in
+    record {
+      size : items.size ≡ per_row;
+      reported :
+          Reported l.ages (take (scratch_room l.ages) l.scratch) items.rest.now l.initial.report l.report l.number-iterator.count;
+    }

@@ -1,32 +1,15 @@
--- A refusal leaves both buffers as they were, and an accepted member has what its run requires. Assumes nothing.
-use native.Mathlib.Omega.{arith}
-use lib.ListN.{length}
-use mathlib.Core.Path.{◌≡◌, sym, ap, ◌∙◌}
-use Rattle.fields.specs.Outcomes.{Gives}
-use Rattle.fields.specs.Quantities.{quantities_of}
-use Rattle.member.specs.Member.{checked_of}
-use Rattle.member.specs.Checking.{checked as given_by}
-use Rattle.entries.proofs.Accepting.{runs, answers}
-use Rattle.entries.proofs.Answering.{refused_early}
+-- An accepted member has what its run requires. Assumes nothing.
+use mathlib.Core.Path.{sym}
+use Rattle.fields.proofs.Laws.{segments_length}
+use Rattle.entries.proofs.Accepting.{bounded, runs}
 use Rattle.entries.proofs.run.run_fields.Goals as goal
+
+pub invariant_of-run_member : goal.invariant_of-run_member
+invariant_of-run_member c = record {
+  bounded = bounded c.args.fields.now _ _ (sym c.in_ok-member.ensures) (rw (← c.fields.view_is, segments_length) c.fields.invariant.segments_most);
+}
 
 pub run_member-requires : goal.run_member-requires
 run_member-requires c =
-    let checked : let args = c.args in
-    checked_of (quantities_of args.segments args.ages args.fields.now) (length args.report.now)
-    (length args.scratch.now) ≡ Gives c.in-Accepted.m =
-    sym c.check_member.ensures ∙ ap given_by c.in-Accepted.is in
-    runs _ _ _ _ _ _ checked _ c.from_element.ensures c.requires (omega arith)
-
-pub returns-in-Refused : goal.returns-in-Refused
-returns-in-Refused c =
-    refused_early _ _ _ _ (rw (sym c.check_member.ensures, c.in-Refused.is))
-
-pub returns-in-Accepted : goal.returns-in-Accepted
-returns-in-Accepted c =
-    let checked : let args = c.args in
-    checked_of (quantities_of args.segments args.ages args.fields.now) (length args.report.now)
-    (length args.scratch.now) ≡ Gives c.in-Accepted.m =
-    sym c.check_member.ensures ∙ ap given_by c.in-Accepted.is in
     let args = c.args in
-    answers args.segments args.ages args.fields.now _ _ _ checked _ c.from_element.ensures c.run_member.ensures
+    runs args.fields.now args.report.now args.scratch.now _ (sym c.in_ok-member.ensures) _ c.ages.ensures.ages

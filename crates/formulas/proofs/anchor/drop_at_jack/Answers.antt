@@ -1,13 +1,13 @@
 -- Z² times 3·path is at most 1024·d·Es·slip just where Z² is at most the quotient, which is taken in whole 1,024s and 1,024th parts.
 -- Assumes nothing.
 use mathlib.Core.Path.{◌≡◌}
-use Prim.Native.Nat.{ℕ, suc, ◌+◌, ◌-◌, ◌*◌, ◌/◌, ◌%◌, ◌≤◌, ◌<◌}
-use native.Mathlib.Nat.{div-lt_iff_lt-mul, mod-lt, div-add-mod', mul-div-le, lt-mul-div-succ, mul-le-mul, mul-le-mul_left}
+use Prim.Native.Nat.{ℕ, suc, ◌+◌, ◌*◌, ◌/◌, ◌%◌, ◌≤◌}
+use native.Mathlib.Nat.{div-add-mod', mul-div-le, lt-mul-div-succ, mul-le-mul_left}
 use native.Mathlib.Omega.{arith}
 use borrow.Author.Tests.{le-leb, lt-leb}
 use Rattle.ticks.specs.Ticks.{ticks_per_unit}
 use Rattle.formulas.specs.Steps.{IsDropAtJack, drop_at_jack}
-use Rattle.formulas.specs.Conditions.{stress_limit, es_limit, most_slip, DropFits}
+use Rattle.formulas.specs.Conditions.{DropFits}
 use Rattle.formulas.specs.Roots.{Root}
 use Rattle.formulas.proofs.Drop.{one_drop}
 use Rattle.formulas.proofs.anchor.drop_at_jack.Goals as goal
@@ -23,16 +23,6 @@ module _ {d es slip path_length : ℕ} (fits : DropFits d es slip path_length) w
   -- 1,024 times it over the divisor is Z² at the most
   abbrev product : ℕ
   product = d * es * slip
-
-  inner_most : d * es ≤ (stress_limit - 1) * (es_limit - 1)
-  inner_most = mul-le-mul {n₂ = stress_limit - 1} {m₂ = es_limit - 1} (omega arith) (omega arith)
-
-  product_most : product ≤ (stress_limit - 1) * (es_limit - 1) * most_slip
-  product_most = mul-le-mul inner_most fits.slip_most
-
-  parts_fit : ticks_per_unit * (product % divisor) / divisor < ticks_per_unit
-  parts_fit =
-      (div-lt_iff_lt-mul some_divisor).1 (omega (arith, mod-lt product {m = divisor} some_divisor))
 
   module _ (z : ℕ) (root : Root (ticks_per_unit * (product / divisor) + ticks_per_unit * (product % divisor) / divisor) z) where
     is_drop : IsDropAtJack d es slip path_length z
@@ -57,18 +47,6 @@ module _ {d es slip path_length : ℕ} (fits : DropFits d es slip path_length) w
 
     found : z ≡ drop_at_jack d es slip path_length
     found = one_drop d es slip path_length fits.some_path z is_drop
-
-pub overflow_mul-product : goal.overflow_mul-product
-overflow_mul-product c = omega (arith, inner_most c.requires)
-
-pub overflow_mul-product-2 : goal.overflow_mul-product-2
-overflow_mul-product-2 c = omega (arith, product_most c.requires)
-
-pub overflow_mul-product-3 : goal.overflow_mul-product-3
-overflow_mul-product-3 c = omega (arith, mod-lt (product c.requires) (some_divisor c.requires))
-
-pub root_of_ticks-requires : goal.root_of_ticks-requires
-root_of_ticks-requires c = parts_fit c.requires
 
 pub returns : goal.returns
 returns c = found c.requires c.root_of_ticks.result c.root_of_ticks.ensures

@@ -14,15 +14,6 @@ grows root m n h = mul-le-mul h (omega arith)
 sum_fits : {root rest above : ℕ} → FurtherFits root rest above → 2 * root + above ≤ word_limit
 sum_fits {root} {above = above} fits = omega (arith, fits.product_fits, mul-le-mul_right (2 * root + above) fits.some)
 
-pub loop-left-init : goal.loop-left-init
-loop-left-init c = record { reaches = omega arith; passes = omega arith; some = omega arith; within = omega arith }
-
-pub overflow_mul-root : goal.overflow_mul-root
-overflow_mul-root c = omega (arith, sum_fits c.requires)
-
-pub overflow_add-root : goal.overflow_add-root
-overflow_add-root c = omega (arith, sum_fits c.requires)
-
 pub overflow_mul-middle : goal.overflow_mul-middle
 overflow_mul-middle c =
     let args = c.args in

@@ -6,7 +6,6 @@ use native.Mathlib.Decide.{dec_lt}
 use native.Mathlib.Omega.{arith}
 use lib.Dec.{ltb}
 use borrow.Author.Tests.{lt-ltb, le-ltb}
-use Rattle.formulas.proofs.Products.{product}
 use Rattle.formulas.proofs.anchor.passes_tendon.Goals as goal
 
 quotient_below : (x divisor n : ℕ) → 1 ≤ divisor → ltb (x / divisor) n ≡ ltb x (n * divisor)
@@ -17,9 +16,6 @@ quotient_below x divisor n h = by (dec_lt x (n * divisor))
     by (no not_below) =
         let above : n * divisor ≤ x = omega arith in
         rw (le-ltb _ _ above, le-ltb _ _ ((le-div_iff_mul-le h).1 above))
-
-pub overflow_mul-result-2 : goal.overflow_mul-result-2
-overflow_mul-result-2 c = omega (arith, product 29 22 {a = 2 * c.args.friction} {b = c.args.length} (omega arith) (omega arith))
 
 pub returns : goal.returns
 returns c =

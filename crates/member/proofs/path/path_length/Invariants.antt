@@ -1,12 +1,12 @@
--- The length is a sum along the segments, of which none is longer than a tendon may be. Assumes nothing.
-use Prim.Native.Nat.{◌-◌}
-use Rattle.fields.specs.Limits.{most_length}
+-- The length so far and that of the segments that are left make the whole. Assumes nothing.
+use mathlib.Core.Path.{◌≡◌}
+use Prim.Native.Nat.{◌+◌}
+use Rattle.fields.specs.Quantities.{per_segment, segments_of}
 use Rattle.member.specs.Constants.{path_length}
-use Rattle.member.proofs.Walk.{Walked}
 use Rattle.member.proofs.path.path_length.Given as goal
 
-abbrev pub invariant-loop-segment : goal.invariant-loop-segment
-invariant-loop-segment l = Walked path_length most_length l.part l.segments l.length l.segment
-
-abbrev pub decreases-loop-segment : goal.decreases-loop-segment
-decreases-loop-segment l = l.segments - l.segment
+abbrev pub invariant-loop-part : goal.invariant-loop-part
+invariant-loop-part l = record {
+  size : l.part-iterator.size ≡ per_segment;
+  same : l.length + path_length (segments_of l.part-iterator.rest.now) ≡ path_length (segments_of l.path);
+}

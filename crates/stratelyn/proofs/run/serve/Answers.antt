@@ -1,15 +1,19 @@
--- Either a reader's refusal is answered, or the run of its fields. Assumes nothing.
-use Rattle.stratelyn.proofs.Hosting.{hosted_refusal}
+-- A reply slice under 64 bytes is looked at first; else the run of what the reader gives is answered. Assumes nothing.
+use Rattle.stratelyn.proofs.Hosting.{run_finite, acceptance_hosted}
+use Rattle.stratelyn.proofs.Serving.{unserved, served}
 use Rattle.stratelyn.proofs.run.serve.Goals as goal
 
-pub serve_fields-requires : goal.serve_fields-requires
-serve_fields-requires c =
-    record { reply_room = c.requires.reply_room; readable = rw c.in-Fields.is at c.requires.readable }
+pub returns-then-reply-lt-REPLY_BYTES : goal.returns-then-reply-lt-REPLY_BYTES
+returns-then-reply-lt-REPLY_BYTES g c =
+    rw c.number.ensures (unserved _ (g.met.R.Reader.accepted _) _ _ _ c.if-reply-lt-REPLY_BYTES.true)
 
-pub returns-in-Not : goal.returns-in-Not
-returns-in-Not c =
-    rw c.in-Not.is (hosted_refusal _ _ c.refuse.ensures)
+pub accept-requires : goal.accept-requires
+accept-requires g c = record {
+  reply_room = c.if-reply-lt-REPLY_BYTES.false;
+  not_nan = run_finite _ c.in-Ok.ensures.answered;
+}
 
-pub returns-in-Fields : goal.returns-in-Fields
-returns-in-Fields c =
-    rw c.in-Fields.is c.serve_fields.ensures
+pub returns-in-Ok : goal.returns-in-Ok
+returns-in-Ok g c =
+    served _ (g.met.R.Reader.accepted _) _ _ _ c.if-reply-lt-REPLY_BYTES.false
+    (acceptance_hosted _ c.in-Ok.ensures c.accept.ensures.replied c.accept.ensures.last_value)

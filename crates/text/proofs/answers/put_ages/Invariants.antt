@@ -1,12 +1,12 @@
--- The part holds the lines of the ages so far, and a turn lays the next one's out behind them. The measure is how many ages are due.
--- Assumes nothing.
-use Prim.Native.Nat.{◌-◌}
+-- The part holds the lines of the ages so far, and their fields and rows are behind. Assumes nothing.
+use Rattle.std.specs.Iterator.Adapters.{enumerate_source, enumerate_count, zip_first, zip_second}
+use Rattle.std.specs.Slice.Iter.{chunks_exact_rest, chunks_exact_size}
 use Rattle.text.proofs.Texts.{Lined}
 use Rattle.text.proofs.answers.put_ages.Given as goal
 
-abbrev pub invariant-loop-age : goal.invariant-loop-age
-invariant-loop-age l =
-    Lined l.fields l.report l.initial.part l.segments l.ages l.part l.at l.field l.row l.age
-
-abbrev pub decreases-loop-age : goal.decreases-loop-age
-decreases-loop-age l = l.ages - l.age
+abbrev pub invariant-loop-passed : goal.invariant-loop-passed
+invariant-loop-passed l =
+    let ages = zip_first (enumerate_source l.passed-iterator) in
+    let rows = zip_second (enumerate_source l.passed-iterator) in
+    Lined l.fields.ages l.rows l.initial.part l.part l.at (chunks_exact_rest ages) (chunks_exact_rest rows)
+    (chunks_exact_size ages) (chunks_exact_size rows) (enumerate_count l.passed-iterator)

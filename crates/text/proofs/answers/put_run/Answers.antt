@@ -1,35 +1,24 @@
 -- What the answer prints is what the run's result does: a refusal's line, or the line before the ages and theirs behind it. Assumes
 -- nothing.
-use Rattle.entries.proofs.Closeness.{close}
-use Rattle.text.proofs.Laying.{counted}
-use Rattle.text.proofs.Texts.{holds_then, ages_fit, refusal_printed, run_printed}
-use borrow.Author.Rules.{rules}
+use mathlib.Core.Path.{◌≡◌}
+use Prim.Native.Nat.{◌*◌}
+use native.Mathlib.Omega.{arith}
+use lib.ListN.{length, take}
+use Rattle.std.proofs.lemmas.List.{length-take-le}
+use Rattle.fields.specs.Limits.{per_row}
+use Rattle.text.proofs.Texts.{age_count, row_count, holds_then, ages_fit, run_printed}
 use Rattle.text.proofs.answers.put_run.Goals as goal
-
-pub slice_bounds-put_ages-count : goal.slice_bounds-put_ages-count
-slice_bounds-put_ages-count c = let within = (counted c.put_before-at.ensures).0 in search rules
-
-pub slice_bounds-put_ages-start : goal.slice_bounds-put_ages-start
-slice_bounds-put_ages-start c = let within = (counted c.put_before-at.ensures).0 in search rules
 
 pub put_ages-requires : goal.put_ages-requires
 put_ages-requires c =
-    ages_fit _ c.requires c.put_before-at.ensures
+    let count = age_count _ _ c.fields.view_is in
+    let few = c.fields.invariant.ages_most in
+    let whole : length (take (per_row * c.fields.inside.counts.ages) c.run_fields.new.report) ≡ per_row * c.fields.inside.counts.ages =
+    length-take-le (per_row * c.fields.inside.counts.ages) c.run_fields.new.report (omega arith) in
+    ages_fit _ (omega arith) (omega arith) c.requires c.put_before-at.ensures
 
-pub overflow_add-result : goal.overflow_add-result
-overflow_add-result c =
-    let within = (counted c.put_before-at.ensures).0 in
-    let more = (counted c.put_ages.ensures).0 in
-    search rules
-
-pub returns-in-Refused : goal.returns-in-Refused
-returns-in-Refused c =
-    let is = rw c.in-Refused.is at c.run_fields.ensures in
-    refusal_printed _ is.answered c.put_refusal.ensures
-
-pub returns-in-Accepted : goal.returns-in-Accepted
-returns-in-Accepted c =
-    let is = rw c.in-Accepted.is at c.run_fields.ensures in
-    let close_run = close _ _ _ c.requires.readable.segments_most c.requires.readable.ages_most _ _ in
-    run_printed _ _ _ _ (λ given gives. (close_run given gives).linked.rows_count) is.answered is.report_is
-    (holds_then c.put_before-at.ensures c.put_ages.ensures)
+pub returns-in-Ok : goal.returns-in-Ok
+returns-in-Ok c =
+    let ran = c.in-Ok.ensures in
+    run_printed c.args.fields.now _ _ _ (row_count _ _ c.fields.view_is c.fields.invariant) ran.answered ran.report_is
+    (rw (age_count _ _ c.fields.view_is) (holds_then c.put_before-at.ensures c.put_ages.ensures))

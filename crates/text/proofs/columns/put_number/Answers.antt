@@ -1,6 +1,5 @@
--- The columns from the loop's on are laid out, and what is left of the number belongs in those before it. The measure is how many
--- columns are due. Assumes nothing.
-use borrow.Author.Rules.{rules}
+-- The columns from the loop's on are laid out, and what is left of the number belongs in those before it. Assumes nothing.
+use native.Mathlib.Omega.{arith}
 use Rattle.text.proofs.Laying.{none_laid, one_more, all_laid}
 use Rattle.text.proofs.columns.put_number.Goals as goal
 
@@ -9,7 +8,7 @@ loop-column-init c = none_laid _ _
 
 pub loop-column-preserved : goal.loop-column-preserved
 loop-column-preserved c =
-    rw c.digit_or_space.ensures (one_more c.loop-column.invariant (search rules) c.requires)
+    rw c.digit_or_space.ensures (one_more c.loop-column.invariant (omega arith) (omega arith))
 
 pub returns : goal.returns
-returns c = all_laid c.loop-column.invariant (search rules)
+returns c = all_laid c.loop-column.invariant c.loop-column-test.false

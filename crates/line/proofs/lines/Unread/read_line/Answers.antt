@@ -1,0 +1,73 @@
+-- `read_line` meets its contract. The loop's invariant is `Front`: the fields passed are read, and their numbers stand at the front of
+-- the buffer. Assumes nothing.
+use mathlib.Core.Path.{◌≡◌, refl, sym, ap, ◌∙◌}
+use mathlib.Core.List.{List}
+use Prim.Native.Nat.{ℕ, ◌+◌, ◌-◌, ◌*◌}
+use native.Mathlib.Omega.{arith}
+use lib.ListN.{length, take, drop}
+use lib.Seq.{drop-drop}
+use Rattle.std.specs.Prelude.{Option, None, Result, Ok, Err}
+use Rattle.std.specs.Option.{ok_or}
+use Rattle.std.proofs.lemmas.Result.{err_from_is_err_and}
+use Rattle.fields.proofs.Buffers.{tail}
+use Rattle.fields.specs.Quantities.{columns}
+use Rattle.line.specs.Lines.{field_of}
+use Rattle.line.proofs.Amounts.{begins, turn, wrong_field, all_fields}
+use Rattle.line.proofs.lines.Unread.read_line.Goals as goal
+
+field_read : {part there : List ℕ} (reads : Option ℕ) {read : Option ℕ} → part ≡ there → read ≡ field_of reads (take columns part)
+    → field_of reads (take columns there) ≡ read
+field_read reads same is = rw (← same) (sym is)
+
+same_line : (line wrong : ℕ) (read : Option ℕ) → read ≡ None → ◌≡◌ {A = Result ℕ ℕ} (Err wrong) (ok_or read line) → line ≡ wrong
+same_line line wrong read none e = let is : ◌≡◌ {A = Result ℕ ℕ} (Err wrong) (Err line) = rw none at e in cc
+
+-- the part behind some of what it begins with
+part_behind : {part : List ℕ} (bytes : List ℕ) (at more to : ℕ) → part ≡ drop at bytes → at + more ≡ to
+    → take (length part - more) (drop more part) ≡ drop to bytes
+part_behind {part = part} bytes at more to is e =
+    tail part more ∙ ap (drop more) is ∙ drop-drop more at bytes ∙ ap (λ (k : ℕ). drop k bytes) e
+
+pub loop-done-init : goal.loop-done-init
+loop-done-init c = record { part_is = refl; front = begins _ _ _ _ _ (omega arith) (sym c.is_shaped.ensures ∙ c.if-not-is_shaped.false) }
+
+pub loop-done-preserved : goal.loop-done-preserved
+loop-done-preserved c =
+    let loop = c.loop-done in
+    record {
+      part_is = part_behind c.args.self.now.bytes.now (columns * loop.done) columns (columns * (loop.done + 1)) loop.invariant.part_is (omega arith);
+      front =
+          turn loop.invariant.front c.in_ok-fields.field-0 c.loop-done-test.true
+          (field_read _ loop.invariant.part_is c.read_field.ensures ∙ c.in_ok-fields.ensures.ok_part);
+    }
+
+pub returns-in_err-fields : goal.returns-in_err-fields
+returns-in_err-fields c =
+    let loop = c.loop-done in
+    let error = err_from_is_err_and c.from_residual.result c.from_residual.ensures.1 in
+    let none = c.in_err-fields.ensures.ok_part in
+    let wrong =
+    wrong_field loop.invariant.front c.loop-done-test.true (field_read _ loop.invariant.part_is c.read_field.ensures ∙ none) in
+    record {
+      value =
+          rw (error.1, error.2, wrong.value)
+          (ap Err (same_line c.args.self.now.line c.in_err-fields.field-0.0 c.read_field.result none c.in_err-fields.ensures.value));
+      fields_after = wrong.fields_after;
+    }
+
+pub returns : goal.returns
+returns c =
+    let loop = c.loop-done in
+    let all = all_fields loop.invariant.front c.loop-done-test.false in
+    let within = loop.invariant.front.within in
+    record {
+      value = record {
+        rest =
+            rw all.value
+            (ap Ok (sym (part_behind c.args.self.now.bytes.now (columns * loop.done) 1 (columns * c.args.count + 1) loop.invariant.part_is (omega arith))));
+        line = refl;
+        field = omega arith;
+        blank = refl;
+      };
+      fields_after = all.fields_after;
+    }
