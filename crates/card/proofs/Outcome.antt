@@ -5,13 +5,14 @@ use Prim.Native.Nat.{ℕ, ◌-◌, ◌*◌, ◌<◌}
 use native.Mathlib.Omega.{arith}
 use lib.ListN.{length, get_or, take, drop, replicate, length-append, length-drop, length-replicate, get_or-append}
 use borrow.Rule.Slice.PartMut.{mid_of, put_mid}
+use Rattle.std.proofs.lemmas.List.{take_rest}
 use Rattle.std.specs.Prelude.{Option, Result, Ok, Err}
 use Rattle.fields.specs.declared.read.Counts.{Counts}
 use Rattle.fields.specs.Quantities.{segments_field, ages_field, per_segment, per_age, head_fields}
 use Rattle.fields.specs.Limits.{most_segments, most_ages}
 use Rattle.fields.specs.declared.refusal.Refusal.{Refusal}
 use Rattle.fields.specs.Outcomes.{OrRefusal, Outcome, refused, accepted, over}
-use Rattle.fields.proofs.Buffers.{length_over, tail, written_behind}
+use Rattle.fields.proofs.Buffers.{length_over, written_behind}
 use Rattle.line.specs.declared.Blank.{Blank}
 use Rattle.line.specs.declared.lines.Unread.{Unread}
 use Rattle.line.specs.Lines.{Lines, ended}
@@ -65,10 +66,7 @@ module _ {counts : Counts} {old : Unread} {was : List ℕ} (fit : AnnouncedFit c
     pub segment_wrong : {line : ℕ} → (lines_from old (segment_lines counts)).rest ≡ Err line → AnnouncedRead counts old was after (Err line)
     segment_wrong e =
         let all = all_from ∙ stops_there segments ages old (rw segments_are at e) in
-        record {
-          value = ap (ended (line_behind counts)) (ap (λ (l : Lines). l.rest) (sym all));
-          fields_after = (rw segments_are at read) ∙ ap (λ (l : Lines). over l.numbers was) (sym all);
-        }
+        record { value = rw all refl; fields_after = rw all (rw segments_are at read) }
 
     module _ {mid : Unread} (there : Behind (lines_from old (segment_lines counts)) (segment_lines counts) old mid) where
       there_is : Behind (lines_from old segments) segments old mid
@@ -100,11 +98,12 @@ module _ {counts : Counts} {old : Unread} {was : List ℕ} (fit : AnnouncedFit c
           let same = after_long in
           let few = fit.segments_most in
           let few_ages = fit.ages_most in
-          rw (ages_are, tail after read_numbers)
+          rw (ages_are, take_rest after read_numbers)
           (record { room = simp length-drop (omega arith); numbered = omega arith; lines_numbered = omega arith })
 
       module _ {last : List ℕ}
-          (written : last ≡ over (lines_from mid (age_lines counts)).numbers (mid_of read_numbers (length after - read_numbers) after)) where
+          (written : last ≡ over (lines_from mid (age_lines counts)).numbers
+          (mid_of read_numbers (length after - read_numbers) after)) where
         abbrev buffer : List ℕ
         buffer = put_mid read_numbers (length after - read_numbers) after last
 
@@ -114,13 +113,13 @@ module _ {counts : Counts} {old : Unread} {was : List ℕ} (fit : AnnouncedFit c
 
         buffer_is : buffer ≡ over (announced old.blank counts old.bytes.now).numbers was
         buffer_is =
-            written_behind (lines_from old segments).numbers (lines_from mid ages).numbers was after last read_numbers numbers_long
-            (rw segments_are at read) (rw ages_are at written)
-            ∙ ap (λ (l : Lines). over l.numbers was) (sym all_is)
+            rw all_is
+            (written_behind (lines_from old segments).numbers (lines_from mid ages).numbers was after last read_numbers numbers_long
+            (rw segments_are at read) (rw ages_are at written))
 
         pub age_wrong : {line : ℕ} → (lines_from mid (age_lines counts)).rest ≡ Err line → AnnouncedRead counts old was buffer (Err line)
         age_wrong e = record {
-          value = ap (ended (line_behind counts)) (sym (ap (λ (l : Lines). l.rest) all_is ∙ (rw ages_are at e)));
+          value = rw (all_is, rw ages_are at e) refl;
           fields_after = buffer_is;
         }
 
@@ -151,8 +150,8 @@ pub record CardRead (blank : Option Blank) (card was now : List ℕ) (reading : 
 by : (blank : Option Blank) (card was now : List ℕ) (outcome : Outcome) → outcome_of blank card ≡ outcome → now ≡ over outcome.numbers was
     → CardRead blank card was now outcome.reading
 by blank card was now outcome e is = record {
-  value = ap (λ (o : Outcome). o.reading) (sym e);
-  fields_after = is ∙ ap (λ (o : Outcome). over o.numbers was) (sym e);
+  value = rw e refl;
+  fields_after = rw e is;
 }
 
 -- which line is wrong or missing where a shape is refused
@@ -161,8 +160,9 @@ pub record Wrong (A : Type 0) (result : Result A ℕ) (refusal : Refusal) : Type
   pub is : result ≡ Err line
   pub refusal_is : refusal ≡ Refusal.Shape line
 
-pub wrong : {A : Type 0} (result : Result A ℕ) (refusal : Refusal) → ◌≡◌ {A = OrRefusal A} (Err refusal) (shape result) → Wrong A result refusal
-wrong (Ok value) refusal e = absurd (let z : ⊥ = cc in z)
+pub wrong : {A : Type 0} (result : Result A ℕ) (refusal : Refusal) → ◌≡◌ {A = OrRefusal A} (Err refusal) (shape result)
+    → Wrong A result refusal
+wrong (Ok value) refusal e = cc
 wrong (Err line) refusal e = record { line = line; is = refl; refusal_is = cc }
 
 -- lines 1 to 4 were read into a buffer

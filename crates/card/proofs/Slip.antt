@@ -16,8 +16,10 @@ use Rattle.fields.specs.Outcomes.{OrRefusal}
 use Rattle.line.specs.declared.Blank.{Blank}
 use Rattle.line.specs.Lines.{space, spaces_in, field_of, blank_reads, amounts_of, line_length, is_shaped, read_line}
 use Rattle.line.proofs.Amounts.{shaped_long}
-use Rattle.line.proofs.BlankField.{amounts_elsewhere, lines_elsewhere, same_lines, written_amount, number_written, amounts_parts, rest_parts, shaped_parts}
-use Rattle.card.specs.Card.{slip_may_be_blank, head_lines, head, first_segment_line, announced_lines, counts_in, shape, unless_refused, ending, outcome_of}
+use Rattle.line.proofs.BlankField.{amounts_elsewhere, lines_elsewhere, same_lines, written_amount, number_written, amounts_parts}
+use Rattle.line.proofs.BlankField.{rest_parts, shaped_parts}
+use Rattle.card.specs.Card.{slip_may_be_blank, head_lines, head, first_segment_line, announced_lines, counts_in, shape, unless_refused}
+use Rattle.card.specs.Card.{ending, outcome_of}
 use Rattle.card.specs.Slip.{slip_column, slip_columns, SlipIsBlank, with_slip}
 
 -- ---- line 1: fields before the slip, the slip, and fields behind it; and the lines up to the fourth

@@ -11,6 +11,7 @@ use text::{MOST_LINE_BYTES, MOST_PER_LINE};
 // Numbers that a report, a scratch or a sheet is lent at most.
 const MOST_ROOM: usize = 4096;
 
+// One line on `write_numbers`, as in examples: shared by `input` it could promise nothing, since no contract says what a system prints.
 fn print_numbers(rt: &impl Print, numbers: &[u64]) {
     let _ = input::write_numbers(&mut io::writer(rt), numbers);
 }
@@ -35,26 +36,19 @@ fn print_before(rt: &impl Print, before: BeforeAges) {
 
 // The bits of a double, as one decimal number; of a NaN, an empty line.
 fn print_bits(rt: &impl Print, double: f64) {
-    if double.is_nan() {
-        let _ = println!(rt; "");
-        return;
-    }
-    let bits = double.to_bits();
-    let _ = println!(rt; "{bits}");
+    let _ = match ticks::bits_of(double) {
+        Some(bits) => println!(rt; "{bits}"),
+        None => println!(rt; ""),
+    };
 }
 
-// A line for each row of a report. A part of the buffer in place of the count would be an option to take apart, and no plainer.
-fn print_rows(rt: &impl Print, report: &[u64; MOST_ROOM], ages: usize) {
-    for row in report.chunks_exact(PER_ROW).take(ages) {
-        print_numbers(rt, row);
-    }
-}
-
-// The rows of an accepted list: how many there are is read off the list once more.
+// A line for each row of an accepted list's report: how many there are is read off the list once more.
 fn print_rows_of(rt: &impl Print, list: &[f64], report: &[u64; MOST_ROOM]) {
     let mut numbers = [0u64; MOST_FIELDS];
     if let Ok(counts) = list::read_list(list, &mut numbers) {
-        print_rows(rt, report, counts.ages);
+        for row in report.chunks_exact(PER_ROW).take(counts.ages) {
+            print_numbers(rt, row);
+        }
     }
 }
 

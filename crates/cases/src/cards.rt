@@ -12,7 +12,8 @@ fn open_card<R: Files + Alloc>(rt: &R, number: usize) -> io::Result<R::File> {
     fs::open(rt, path.as_str())
 }
 
-// What the report program prints for a card.
+// What the report program prints for a card. `print_card` of examples is like it: a function for both would be public, and could promise
+// nothing, since no contract says what a system's files hold and what it prints.
 fn run_card(rt: &(impl Files + Alloc + Print + Eprint), number: usize) {
     match open_card(rt, number) {
         Ok(mut file) => {

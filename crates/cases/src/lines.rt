@@ -13,24 +13,10 @@ const SPACE: char = ' ';
 // The base of digits.
 const HEXADECIMAL: u32 = 16;
 
-// The weight of a double's sign. Bits without it that are above infinity's are a NaN's.
-const SIGN: u64 = 0x8000000000000000;
-
-const INFINITY: u64 = 0x7ff0000000000000;
-
-// The double of a pattern.
-#[tactic(auto, using(std::proofs::lemmas::Float::not_nan_f64_bits))]
-fn double_of(bits: u64) -> f64 {
-    if INFINITY < bits % SIGN {
-        return f64::NAN;
-    }
-    f64::from_bits(bits)
-}
-
 // The double of its digits.
 fn read_double(digits: &str) -> Result<f64> {
     let bits = u64::from_str_radix(digits, HEXADECIMAL)?;
-    Ok(double_of(bits))
+    Ok(numbers::double_of(bits).unwrap_or(f64::NAN))
 }
 
 // What stands before a line's first bar, and what before its second.

@@ -1,5 +1,5 @@
+pub mod Ranged
 pub mod Rows
 pub mod Parts
-pub mod Items
 pub mod Holding
 pub mod Cascade

@@ -31,3 +31,6 @@ pub held : (place : ℕ) (holds : Bool) → checked (at place holds ∷ []) ≡ 
 unfolding checked
 held place true e = refl
 held place false e = cc
+
+-- what a loop cites that adds up what its checks let pass
+pub ruleset one_by_one = (first, held)

@@ -1,13 +1,13 @@
 // Row "ranges", line by line of the card. A place is the number of a field.
-ghost use Rattle.std.specs.Prelude.{◌≡◌, ◌+◌, ◌<◌, ◌^◌, leb, length};
-ghost use Rattle.fields.specs.Quantities.{segments_of, ages_of};
+ghost use Rattle.std.specs.Prelude.{◌≡◌, ◌+◌, leb};
+ghost use Rattle.fields.specs.Along.{segments_of, ages_of};
 ghost use Rattle.fields.specs.Limits.{most_moment};
 ghost use Rattle.checks.specs.Rows.{checked, jacking_fits, deflector_fits, head_ranges, length_fits, rise_fits, ranges_of_segments};
 ghost use Rattle.checks.specs.Rows.{ranges_of_moments, ranges};
 ghost use Rattle.checks.specs.Places.{ranges_of_line1, ranges_of_line2, ranges_of_line3, ranges_of_line4};
 
 use crate::row;
-use fields::layout::{FIRST_SEGMENT, PER_AGE, PER_SEGMENT};
+use fields::parts::Parts;
 use fields::read::Fields;
 use fields::segments::{Age, Segment};
 use fields::{limits, places};
@@ -48,78 +48,54 @@ fn line_1(fields: &Fields) -> Result<(), u64>
     )
 }
 
-#[tactic(auto, using(crate::proofs::Rows::first), unfolding(crate::specs::Places::ranges_of_line2))]
-fn line_2(fields: &Fields) -> Result<(), u64>
-    ensures { result ≡ checked (ranges_of_line2 fields.now) }
-{
-    row::ranged(
-        fields.numbers,
-        places::ES,
-        limits::LEAST_ES,
-        limits::MOST_ES,
-    )?;
-    row::ranged(
-        fields.numbers,
-        places::ECI,
-        limits::LEAST_EC,
-        limits::MOST_EC,
-    )?;
-    row::ranged(
-        fields.numbers,
-        places::EC,
-        limits::LEAST_EC,
-        limits::MOST_EC,
-    )?;
-    row::ranged(
-        fields.numbers,
+// The fields of lines 2, 3 and 4, each with the least and the most that it may read.
+const LINE_2: [(usize, u64, u64); 4] = [
+    (places::ES, limits::LEAST_ES, limits::MOST_ES),
+    (places::ECI, limits::LEAST_EC, limits::MOST_EC),
+    (places::EC, limits::LEAST_EC, limits::MOST_EC),
+    (
         places::VOLUME_TO_SURFACE,
         limits::LEAST_VOLUME_TO_SURFACE,
         limits::MOST_VOLUME_TO_SURFACE,
-    )
-}
+    ),
+];
 
-#[tactic(auto, using(crate::proofs::Rows::first), unfolding(crate::specs::Places::ranges_of_line3))]
-fn line_3(fields: &Fields) -> Result<(), u64>
-    ensures { result ≡ checked (ranges_of_line3 fields.now) }
-{
-    row::ranged(
-        fields.numbers,
-        places::AREA,
-        limits::LEAST_AREA,
-        limits::MOST_AREA,
-    )?;
-    row::ranged(
-        fields.numbers,
-        places::INERTIA,
-        limits::LEAST_INERTIA,
-        limits::MOST_INERTIA,
-    )?;
-    row::ranged(
-        fields.numbers,
-        places::ECCENTRICITY,
-        0,
-        limits::MOST_ECCENTRICITY,
-    )?;
-    row::ranged(
-        fields.numbers,
+const LINE_3: [(usize, u64, u64); 5] = [
+    (places::AREA, limits::LEAST_AREA, limits::MOST_AREA),
+    (places::INERTIA, limits::LEAST_INERTIA, limits::MOST_INERTIA),
+    (places::ECCENTRICITY, 0, limits::MOST_ECCENTRICITY),
+    (
         places::STEEL_AREA,
         limits::LEAST_STEEL_AREA,
         limits::MOST_STEEL_AREA,
-    )?;
-    row::ranged(
-        fields.numbers,
-        places::OWN_WEIGHT_MOMENT,
-        0,
-        limits::MOST_MOMENT,
-    )
+    ),
+    (places::OWN_WEIGHT_MOMENT, 0, limits::MOST_MOMENT),
+];
+
+const LINE_4: [(usize, u64, u64); 2] = [
+    (places::WOBBLE, 0, limits::MOST_WOBBLE),
+    (places::CURVATURE, 0, limits::MOST_CURVATURE),
+];
+
+#[tactic(auto, unfolding(crate::specs::Places::ranges_of_line2, crate::specs::Ranged::ranges_held))]
+fn line_2(fields: &Fields) -> Result<(), u64>
+    ensures { result ≡ checked (ranges_of_line2 fields.now) }
+{
+    row::all_ranged(fields.numbers, &LINE_2)
 }
 
-#[tactic(auto, using(crate::proofs::Rows::first), unfolding(crate::specs::Places::ranges_of_line4))]
+#[tactic(auto, unfolding(crate::specs::Places::ranges_of_line3, crate::specs::Ranged::ranges_held))]
+fn line_3(fields: &Fields) -> Result<(), u64>
+    ensures { result ≡ checked (ranges_of_line3 fields.now) }
+{
+    row::all_ranged(fields.numbers, &LINE_3)
+}
+
+#[tactic(auto, unfolding(crate::specs::Places::ranges_of_line4, crate::specs::Ranged::ranges_held))]
 fn line_4(fields: &Fields) -> Result<(), u64>
     ensures { result ≡ checked (ranges_of_line4 fields.now) }
 {
-    row::ranged(fields.numbers, places::WOBBLE, 0, limits::MOST_WOBBLE)?;
-    row::ranged(fields.numbers, places::CURVATURE, 0, limits::MOST_CURVATURE)
+    row::all_ranged(fields.numbers, &LINE_4)
 }
 
 #[tactic(auto, using(crate::proofs::Parts::head_in_lines))]
@@ -132,6 +108,7 @@ fn head_ranges(fields: &Fields) -> Result<(), u64>
     line_4(fields)
 }
 
+// A code is a number still, here and below: one that is not listed is row "codes" to refuse.
 fn length_fits(segment: Segment) -> bool
     ensures { result ≡ length_fits segment }
 {
@@ -153,39 +130,35 @@ fn rise_fits(segment: Segment) -> bool
     }
 }
 
-// The ranges of the segments whose fields `path` has. Its first field is numbered `place`.
-#[tactic(auto, using(crate::proofs::Items::ranges_along))]
-pub fn of_segments(path: &[u64], place: u64) -> Result<(), u64>
-    requires { place + length path.now < 2 ^ 64 }
-    ensures { result ≡ checked (ranges_of_segments place (segments_of path.now)) }
+// The ranges of a path's segments.
+#[tactic(auto, using(crate::proofs::Rows::first), unfolding(crate::specs::Rows::ranges_of_segments, crate::specs::Rows::checked))]
+pub fn of_segments(path: Parts<Segment>) -> Result<(), u64>
+    ensures { result ≡ checked (ranges_of_segments path.entry.place (segments_of path.entry.fields.now)) }
 {
-    for (index, part) in path.chunks_exact(PER_SEGMENT).enumerate() {
-        let segment = Segment::at(part);
-        let here = place + (PER_SEGMENT * index) as u64;
-        row::check(length_fits(segment), here + 1)?;
-        row::check(rise_fits(segment), here + 2)?;
+    for (place, segment) in path {
+        row::check(length_fits(segment), place + 1)?;
+        row::check(rise_fits(segment), place + 2)?;
     }
     Ok(())
 }
 
-// All moments together stay within their limit. The sum is not made, so that none can wrap.
+// All moments together stay within their limit.
 fn moment_fits(before: u64, moment: u64) -> bool
     ensures { result ≡ leb (before + moment) most_moment }
 {
-    before <= limits::MOST_MOMENT && moment <= limits::MOST_MOMENT - before
+    before
+        .checked_add(moment)
+        .is_some_and(|moments| moments <= limits::MOST_MOMENT)
 }
 
-// The moments of the ages whose fields `ages` has, added to those `before` them. Its first field is numbered `place`.
-#[tactic(auto, using(crate::proofs::Items::moments_along))]
-pub fn of_moments(ages: &[u64], place: u64, before: u64) -> Result<(), u64>
-    requires { place + length ages.now < 2 ^ 64 }
-    ensures { result ≡ checked (ranges_of_moments place before (ages_of ages.now)) }
+// The moments of the ages, added to those `before` them.
+#[tactic(auto, using(crate::proofs::Rows::one_by_one), unfolding(crate::specs::Rows::ranges_of_moments, crate::specs::Rows::checked))]
+pub fn of_moments(ages: Parts<Age>, before: u64) -> Result<(), u64>
+    ensures { result ≡ checked (ranges_of_moments ages.entry.place before (ages_of ages.entry.fields.now)) }
 {
     let mut moments = before;
-    for (age, part) in ages.chunks_exact(PER_AGE).enumerate() {
-        let moment = Age::at(part).moment;
-        let here = place + (PER_AGE * age) as u64;
-        row::check(moment_fits(moments, moment), here + 1)?;
+    for (place, Age { moment, .. }) in ages {
+        row::check(moment_fits(moments, moment), place + 1)?;
         moments += moment;
     }
     Ok(())
@@ -196,12 +169,6 @@ pub fn check(fields: &Fields) -> Result<(), u64>
     ensures { result ≡ checked (ranges fields.now) }
 {
     head_ranges(fields)?;
-    let path = fields.path();
-    of_segments(path, FIRST_SEGMENT)?;
-    let first_age = FIRST_SEGMENT + path.len() as u64;
-    of_moments(
-        fields.ages(),
-        first_age,
-        fields.numbers[places::OWN_WEIGHT_MOMENT],
-    )
+    of_segments(fields.path())?;
+    of_moments(fields.ages(), fields.numbers[places::OWN_WEIGHT_MOMENT])
 }

@@ -2,6 +2,7 @@
 ghost use Rattle.std.specs.Prelude.{◌≡◌, [], ◌∷◌, ◌+◌, ◌<◌, get_or};
 ghost use Rattle.fields.specs.Sizes.{most_fields};
 ghost use Rattle.checks.specs.Rows.{checked, within, at};
+ghost use Rattle.checks.specs.Ranged.{Elements, ranges_held};
 
 use fields::limits::MOST_FIELDS;
 
@@ -27,4 +28,16 @@ pub fn ranged(numbers: &[u64; MOST_FIELDS], element: usize, low: u64, high: u64)
     ensures { result ≡ checked (at (element + 1) (within low high (get_or numbers.now element 0)) ∷ []) }
 {
     field((low..=high).contains(&numbers[element]), element)
+}
+
+// The same of some fields in turn, each with the ends of its range.
+#[tactic(auto, using(crate::proofs::Ranged::ranges_along))]
+pub fn all_ranged(numbers: &[u64; MOST_FIELDS], ranges: &[(usize, u64, u64)]) -> Result<(), u64>
+    requires { Elements ranges.now }
+    ensures { result ≡ checked (ranges_held numbers.now ranges.now) }
+{
+    for &(element, low, high) in ranges {
+        ranged(numbers, element, low, high)?;
+    }
+    Ok(())
 }

@@ -1,5 +1,5 @@
-// The three clocks. Each is a type of its own, so that a reading of one cannot enter another's table. One generic type would be no plainer:
-// each clock would have a type all the same, to tell its hours from the others'.
+// The three clocks. Document 01 names this form: "three tuple structs for hours since transfer, end of curing and tensioning", of one shape
+// and yet of three types, so that "a reading of one never enters another's table".
 ghost use Rattle.std.specs.Prelude.{◌≡◌, ◌-◌};
 ghost use Rattle.coefficient.specs.Coefficients.{since_transfer, since_curing, since_tensioning};
 

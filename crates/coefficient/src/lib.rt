@@ -88,14 +88,13 @@ const USH_LEAST: u64 = 12_000_000_000;
 pub fn ucr_of(cure: Cure, concrete: Concrete, ec: u32) -> u64
     ensures { result ≡ ucr cure concrete ec }
 {
-    let base = match cure {
-        Cure::Moist => match concrete {
-            Concrete::Normal => UCR_MOIST_NORMAL,
-            Concrete::Lightweight => UCR_MOIST_LIGHTWEIGHT,
-        },
-        Cure::Accelerated => UCR_ACCELERATED,
+    let base = match (cure, concrete) {
+        (Cure::Moist, Concrete::Normal) => UCR_MOIST_NORMAL,
+        (Cure::Moist, Concrete::Lightweight) => UCR_MOIST_LIGHTWEIGHT,
+        (Cure::Accelerated, _) => UCR_ACCELERATED,
     };
-    base.saturating_sub(UCR_A_PSI * (ec as u64)).max(UCR_LEAST)
+    base.saturating_sub(UCR_A_PSI * u64::from(ec))
+        .max(UCR_LEAST)
 }
 
 // The whole shrinkage, in millionths of psi.
@@ -107,5 +106,5 @@ pub fn ush_of(concrete: Concrete, ec: u32) -> u64
         Concrete::Normal => (USH_NORMAL, USH_NORMAL_A_PSI),
         Concrete::Lightweight => (USH_LIGHTWEIGHT, USH_LIGHTWEIGHT_A_PSI),
     };
-    base.saturating_sub(a_psi * (ec as u64)).max(USH_LEAST)
+    base.saturating_sub(a_psi * u64::from(ec)).max(USH_LEAST)
 }

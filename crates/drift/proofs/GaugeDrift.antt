@@ -4,19 +4,19 @@
 use mathlib.Core.Path.{◌≡◌, refl, sym, ◌∙◌}
 use mathlib.Core.Bool.{false}
 use mathlib.Core.List.{List}
-use Prim.Native.Nat.{ℕ, ◌+◌, ◌*◌, ◌≤◌, ◌<◌}
+use Prim.Native.Nat.{ℕ, ◌≤◌, ◌<◌}
 use native.Mathlib.Nat.{le_trans}
 use native.Mathlib.Decide.{dec_lt}
 use native.Mathlib.Omega.{arith}
 use lib.Dec.{lit≤}
-use lib.ListN.{length, drop}
+use lib.ListN.{length}
 use Rattle.std.specs.Prelude.{Ok, Err}
 use Rattle.fields.specs.Limits.{most_segments, most_ages}
 use Rattle.fields.specs.Outcomes.{OrRefusal}
-use Rattle.fields.specs.Quantities.{Quantities, head_fields, per_segment, quantities_read}
+use Rattle.fields.specs.Quantities.{Quantities, quantities_read}
 use Rattle.fields.specs.Refusals.{acceptance_number}
 use Rattle.fields.specs.Readable.{AcceptedIfRead}
-use Rattle.fields.proofs.Laws.{segments_length, ages_length}
+use Rattle.fields.proofs.Counting.{path_counted, ages_counted}
 use Rattle.fields.proofs.Refusals.{refusal_number}
 use Rattle.card.specs.Laws.{card_accepted}
 use Rattle.list.specs.Laws.{list_accepted}
@@ -47,8 +47,8 @@ few input =
     (λ counts e.
     let good = read_accepted input counts e in
     let fields = (read input).numbers in (
-      rw (segments_length counts.segments (drop head_fields fields)) good.few_segments,
-      rw (ages_length counts.ages (drop (head_fields + per_segment * counts.segments) fields)) good.few_ages,
+      rw (path_counted counts fields) good.few_segments,
+      rw (ages_counted counts fields) good.few_ages,
     ))
 
 run_of : (input : Input) {q : Quantities} → quantities_read (read input) ≡ Ok q → (0 < q.jacking_stress → follows_path q ≡ false)

@@ -27,14 +27,14 @@ pub one_segment_more : (wobble curvature : ℕ) (path : List Segment) (k : ℕ) 
     → path_friction wobble curvature (take (suc k) path)
     ≡ path_friction wobble curvature (take k path) + segment_friction wobble curvature segment
 unfolding path_friction
-one_segment_more wobble curvature [] zero e = let never : ◌≡◌ {A = ℕ} 0 1 = cc in absurd (omega arith)
-one_segment_more wobble curvature [] (suc k) e = let never : ◌≡◌ {A = ℕ} 0 1 = cc in absurd (omega arith)
+one_segment_more wobble curvature [] zero e = cc
+one_segment_more wobble curvature [] (suc k) e = cc
 one_segment_more wobble curvature (first ∷ path) zero {segment} e = let same : first ≡ segment = cc in rw same (omega arith)
 one_segment_more wobble curvature (first ∷ path) (suc k) e = omega (arith, one_segment_more wobble curvature path k e)
 
 pub fits_at : (path : List Segment) (k : ℕ) {segment : Segment} {rest : List Segment} → SegmentsFit path → drop k path ≡ segment ∷ rest
     → SegmentFits segment
-fits_at [] zero no_segment e = let never : ◌≡◌ {A = ℕ} 0 1 = cc in absurd (omega arith)
-fits_at [] (suc k) no_segment e = let never : ◌≡◌ {A = ℕ} 0 1 = cc in absurd (omega arith)
+fits_at [] zero no_segment e = grind arith
+fits_at [] (suc k) no_segment e = grind arith
 fits_at (first ∷ path) zero {segment} (segment_fits fits later) e = let same : first ≡ segment = cc in rw same at fits
 fits_at (first ∷ path) (suc k) (segment_fits fits later) e = fits_at path k later e

@@ -3,13 +3,13 @@
 use mathlib.Core.Path.{◌≡◌, refl, ◌∙◌}
 use mathlib.Core.List.{List, []}
 use Prim.Native.Nat.{ℕ}
-use lib.ListN.{length, drop}
+use lib.ListN.{length}
 use Rattle.std.specs.Prelude.{Ok, Err}
 use Rattle.fields.specs.declared.refusal.Refusal.{Refusal}
 use Rattle.fields.specs.Outcomes.{OrRefusal, onward, Outcome}
-use Rattle.fields.specs.Quantities.{Quantities, head_fields}
+use Rattle.fields.specs.Quantities.{Quantities}
 use Rattle.fields.specs.Readable.{AcceptedIfRead}
-use Rattle.fields.proofs.Laws.{segments_length}
+use Rattle.fields.proofs.Counting.{path_counted}
 use Rattle.fields.proofs.Reading.{of_read}
 use Rattle.checks.specs.Rows.{checked_by}
 use Rattle.checks.proofs.Cascade.{in_parts}
@@ -43,7 +43,7 @@ module _ (outcome : Outcome) (accepted : AcceptedIfRead outcome) where
   all_close room q given read =
       of_read outcome (λ q. sheet_result q room ≡ Ok given → SheetClose q given)
       (λ counts e. let few = (accepted counts e).few_segments in
-      close _ (rw (segments_length counts.segments (drop head_fields outcome.numbers)) few) room given) q read
+      close _ (rw (path_counted counts outcome.numbers) few) room given) q read
 
   pub promised : {answer : SheetAnswer} {sheet sheet_was : List ℕ} → Answered (sheet_read outcome (length sheet_was)) answer sheet sheet_was
       → SheetPromise outcome answer sheet sheet_was

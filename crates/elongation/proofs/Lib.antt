@@ -1,5 +1,4 @@
 pub mod Along
-pub mod Counting
 mod Passing
 mod Walk
 pub mod Closeness

@@ -1,6 +1,5 @@
 -- The elongations of a path are written segment by segment: those that are written and those of the segments left make the whole, and X,
--- the stress before the next segment and the sum are those of the segments that are passed. The segments left are those of the fields that
--- are left to be cut into parts. Assumes nothing.
+-- the stress before the next segment and the sum are those of the segments that are passed. Assumes nothing.
 use mathlib.Core.Path.{◌≡◌, refl, sym, ap, ◌∙◌}
 use mathlib.Core.List.{List, [], ◌∷◌, ◌++◌, append_assoc, append-nil}
 use Prim.Native.Nat.{ℕ, suc, ◌+◌, ◌*◌, ◌≤◌, ◌<◌}
@@ -14,10 +13,9 @@ use Rattle.formulas.specs.Conditions.{stress_limit, FrictionFits}
 use Rattle.formulas.proofs.Laws.{stress_left_most}
 use Rattle.fields.specs.Outcomes.{over}
 use Rattle.fields.specs.declared.segments.Segment.{Segment}
-use Rattle.fields.specs.Quantities.{per_segment, Quantities, segment_at, segments_of}
+use Rattle.fields.specs.Quantities.{Quantities}
 use Rattle.fields.specs.Limits.{most_friction, most_segments}
 use Rattle.fields.proofs.Buffers.{set_behind}
-use Rattle.checks.proofs.Items.{next_segment as next_part, no_segment as no_part}
 use Rattle.member.specs.Constants.{segment_friction, path_friction, jacked, stress_along}
 use Rattle.member.specs.Facts.{SegmentFrictionFits}
 use Rattle.tolerance.proofs.Path.{friction_of_part}
@@ -27,25 +25,10 @@ use Rattle.elongation.proofs.Along.{jacked_first, one_segment_more, fits_at}
 
 -- ---- the segments that are left
 
--- so many segments are passed, and the fields `rest` are left, to be cut into parts of `size`
-pub record Left (path : List Segment) (size k : ℕ) (rest : List ℕ) : Type 0 where
-  pub size_is : size ≡ per_segment
-  pub segments : segments_of rest ≡ drop k path
-
-module _ {path : List Segment} {size k : ℕ} {rest : List ℕ} (left : Left path size k rest) where
-  pub next_segment : (part later : List ℕ) → rest ≡ part ++ later → length part ≡ size → drop k path ≡ segment_at part ∷ segments_of later
-  next_segment part later e whole = sym left.segments ∙ rw e (next_part part later (whole ∙ left.size_is))
-
-  -- it is passed
-  pub one_passed : (part later : List ℕ) → rest ≡ part ++ later → length part ≡ size → {size_then k_then : ℕ} → size_then ≡ size
-      → k_then ≡ k + 1 → Left path size_then k_then later
-  one_passed part later e whole same more = record {
-    size_is = same ∙ left.size_is;
-    segments = ap (λ (l : List Segment). drop 1 l) (sym (next_segment part later e whole)) ∙ rw (more, drop-drop 1 k path);
-  }
-
-  pub no_segment : length rest < size → drop k path ≡ []
-  no_segment short = let is = left.size_is in sym left.segments ∙ no_part rest (omega arith)
+-- the first of them is passed
+pub one_passed : (path : List Segment) (k : ℕ) {left later : List Segment} {segment : Segment} → left ≡ drop k path
+    → left ≡ segment ∷ later → later ≡ drop (k + 1) path
+one_passed path k is next = ap (λ (l : List Segment). drop 1 l) (sym next ∙ is) ∙ drop-drop 1 k path
 
 -- ---- what is written
 
@@ -134,7 +117,7 @@ module _ {q : Quantities} {old : List ℕ} (fit : Stretchable q old) where
       more_left = let left = simp length-drop at (ap length next) in omega arith
 
       later_is : later ≡ drop (suc k) q.path
-      later_is = ap (λ (l : List Segment). drop 1 l) (sym next) ∙ rw (drop-drop 1 k q.path, add-one)
+      later_is = rw add-one at (one_passed q.path k refl next)
 
       pub fits : SegmentFrictionFits q.wobble q.curvature segment
       fits =

@@ -1,24 +1,24 @@
 // The sheet's checks: the card's down to the duct, with 13 before that, and then the room.
 ghost use Rattle.std.specs.Prelude.{◌≡◌};
 ghost use Rattle.checks.specs.Rows.{checked_by};
-ghost use Rattle.member.specs.Checking.{BelowHours};
 ghost use Rattle.elongation.specs.Sheet.{below_hours, sheet_rows};
 
 use fields::read::Fields;
 use fields::refusal::Refusal;
+use member::ranged::Ranged;
 
 // The place of the one lent buffer.
 const SHEET: u64 = 1;
 
 // What is checked below the row "hours". `room` is the length of the lent buffer.
-fn check_below_hours(fields: &Fields, room: usize) -> Result<(), Refusal>
-    requires { BelowHours fields.now }
-    ensures { result ≡ checked_by (below_hours fields.now room) tt }
+fn check_below_hours(ranged: &Ranged, room: usize) -> Result<(), Refusal>
+    ensures { result ≡ checked_by (below_hours ranged.now room) tt }
 {
+    let fields = ranged.fields;
     if fields.is_pretensioned() {
         return Err(Refusal::Pretensioned);
     }
-    member::check_duct(fields)?;
+    member::check_duct(ranged)?;
     if room < fields.counts.segments {
         return Err(Refusal::Buffers(SHEET));
     }
@@ -29,5 +29,5 @@ pub(crate) fn check_sheet(fields: &Fields, room: usize) -> Result<(), Refusal>
     ensures { result ≡ checked_by (sheet_rows fields.now room) tt }
 {
     member::check_to_hours(fields)?;
-    check_below_hours(fields, room)
+    check_below_hours(&Ranged { fields }, room)
 }

@@ -4,10 +4,8 @@ ghost use Rattle.member.specs.Facts.{AtMost};
 ghost use Rattle.elongation.specs.Sheet.{elongation as elongationOf};
 ghost use Rattle.elongation.specs.Conditions.{ElongationFits, most_elongation, Stretchable, Stretched};
 
-use fields::layout::PER_SEGMENT;
 use fields::places;
 use fields::read::Fields;
-use fields::segments::Segment;
 use formulas::INCHES_TO_A_FOOT;
 use member::path;
 use ticks::TICKS_PER_UNIT;
@@ -22,6 +20,7 @@ fn elongation(es: u64, before: u64, after: u64, length: u64) -> u64
 
 // Writes the elongations of the path's segments to the front of `sheet`; their sum. Each segment begins with the stress that the one
 // before it leaves.
+#[tactic(auto, using(fields::proofs::Counting::few_segments, crate::proofs::Walk::none_stretched, crate::proofs::Walk::sum_small))]
 pub(crate) fn stretch(fields: &Fields, sheet: &mut [u64]) -> u64
     requires { Stretchable fields.now sheet.old }
     ensures { Stretched fields.now result sheet.new sheet.old }
@@ -33,12 +32,12 @@ pub(crate) fn stretch(fields: &Fields, sheet: &mut [u64]) -> u64
     let mut friction = 0;
     let mut before = jacked;
     let mut sum = 0;
-    for (place, part) in fields.path().chunks_exact(PER_SEGMENT).enumerate() {
-        let segment = Segment::at(part);
+    // By number: of what is written through `sheet.iter_mut()` in a `zip` a proof knows nothing.
+    for (number, (_, segment)) in fields.path().enumerate() {
         friction += path::segment_friction(wobble, curvature, segment);
         let after = formulas::stress_left(jacked, friction);
         let stretched = elongation(es, before, after, segment.length);
-        sheet[place] = stretched;
+        sheet[number] = stretched;
         sum += stretched;
         before = after;
     }

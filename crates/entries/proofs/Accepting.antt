@@ -5,7 +5,6 @@ use Prim.Native.Nat.{ℕ, ◌≤◌}
 use native.Mathlib.Omega.{arith}
 use lib.ListN.{length}
 use Rattle.std.specs.Prelude.{Ok}
-use Rattle.fields.specs.declared.segments.Age.{Age}
 use Rattle.fields.specs.Quantities.{Quantities}
 use Rattle.fields.specs.Limits.{most_segments}
 use Rattle.member.specs.declared.Member.{Member}
@@ -16,7 +15,7 @@ use Rattle.member.proofs.Laws.{accepted}
 use Rattle.stages.specs.Conditions.{Bounded}
 use Rattle.stages.specs.Run.{member_result, result_of}
 use Rattle.entries.specs.Answers.{Answer, Ran}
-use Rattle.entries.specs.Conditions.{Runnable}
+use Rattle.entries.specs.Conditions.{AgesFit, RoomForRows}
 
 of_facts : (q : Quantities) (report scratch : ℕ) → length q.path ≤ most_segments → Facts q report scratch → Bounded (member_of q)
 unfolding member_of
@@ -52,21 +51,20 @@ pub bounded : (q : Quantities) (report scratch : ℕ) {m : Member} → checked_o
 bounded q report scratch checked few_segments =
     let known = accepted q report scratch checked in rw known.is (of_facts q report scratch few_segments known.facts)
 
-module _ (q : Quantities) (report scratch : List ℕ) (m : Member) (checked : checked_of q (length report) (length scratch) ≡ Ok m)
-    (ages : List Age) (same_ages : ages ≡ q.ages) where
-  -- what an accepted member's run requires
-  pub runs : Runnable m ages report scratch
+module _ (q : Quantities) (report scratch : List ℕ) (m : Member) (checked : checked_of q (length report) (length scratch) ≡ Ok m) where
+  pub ages_fit : AgesFit m q.ages
   unfolding member_of
-  runs =
+  ages_fit =
       let known = accepted q (length report) (length scratch) checked in
-      let facts = known.facts in
-      rw (known.is, same_ages) (record {
-        ages_fit = record { rise = facts.ages_rise; moments_fit = facts.moments_fit };
-        room = record { report_room_fits = facts.report_room_fits; scratch_room_fits = facts.scratch_room_fits };
-      })
+      rw known.is (record { rise = known.facts.ages_rise; moments_fit = known.facts.moments_fit })
+
+  pub room : RoomForRows (length q.ages) report scratch
+  room =
+      let facts = (accepted q (length report) (length scratch) checked).facts in
+      record { report_room_fits = facts.report_room_fits; scratch_room_fits = facts.scratch_room_fits }
 
   -- what its run answers is what the quantities give
   pub answers : {answer : Answer} {report_then scratch_then : List ℕ}
-      → Ran (member_result m ages) answer report_then report scratch_then scratch
+      → Ran (member_result m q.ages) answer report_then report scratch_then scratch
       → Ran (result_of q (length report) (length scratch)) answer report_then report scratch_then scratch
-  answers ran = rw checked (rw same_ages at ran)
+  answers ran = rw checked ran

@@ -84,7 +84,7 @@ module _ (m : Member) (ages : List Age) (report scratch_was : List ℕ) where
         let stopped = refused aged (λ passed. passed.last) (sym ran.result_is ∙ e) in
         let alters = rw stopped at ran.leaves in
         refuses refusal (member_result m ages) report scratch scratch_was (rw (begun, stopped))
-        (λ unaltered. let never : ◌≡◌ {A = ℕ} 0 1 = cc in absurd (omega arith)) ran.scratch_length
+        (λ unaltered. cc) ran.scratch_length
 
     pub all_passed : (last : ℕ) (double : Float) (filled : List ℕ) → result ≡ Ok last → IsExactly double last
         → filled ≡ over (take (scratch_room (length ages)) scratch) report
@@ -99,6 +99,6 @@ module _ (m : Member) (ages : List Age) (report scratch_was : List ℕ) where
         rw (begun, all.aged_is, all.last_is) (record {
           answered = record { number_is = refl; values_are = rw (same_bits double last exactly); double_is = exactly };
           report_is = rw front at filling;
-          scratch_kept = λ free. let never : ◌≡◌ {A = ℕ} 0 1 = cc in absurd (omega arith);
+          scratch_kept = λ free. cc;
           scratch_length = ran.scratch_length;
         })

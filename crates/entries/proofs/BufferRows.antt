@@ -5,13 +5,12 @@ use mathlib.Core.List.{List, ◌++◌}
 use Prim.Native.Nat.{ℕ, ◌+◌, ◌-◌, ◌*◌, ◌≤◌, ◌<◌}
 use native.Mathlib.Omega.{arith}
 use lib.ListN.{length, take, drop, length-append, length-drop}
-use lib.Seq.{length-take-le, take-add, take_all, take-append_seam, drop-append_seam, drop-drop}
+use lib.Seq.{length-take-le, take-add, take-append_seam, drop-append_seam, drop-drop}
 use borrow.Rule.Slice.PartMut.{mid_of, put_mid}
 use Rattle.std.proofs.lemmas.List.{take_rest}
 use Rattle.fields.specs.Limits.{per_row, scratch_room}
 use Rattle.fields.specs.Outcomes.{over}
 use Rattle.fields.proofs.Buffers.{length_over, written_behind}
-use Rattle.entries.specs.Conditions.{RoomForRows}
 
 -- room for a row behind some place is room in the part from that place on
 pub part_room : (buffer : List ℕ) (at : ℕ) → at + per_row ≤ length buffer → per_row ≤ length (mid_of at (length buffer - at) buffer)
@@ -25,15 +24,6 @@ pub record Reported (ages : ℕ) (rows left old report : List ℕ) (number : ℕ
   pub written : report ≡ over (take (per_row * number) rows) old
   pub room : length rows ≤ length old
 
--- none so far, of the rows of so many ages
-pub none_reported : (ages : ℕ) (scratch old : List ℕ) → RoomForRows ages old scratch
-    → Reported ages (take (scratch_room ages) scratch) (take (scratch_room ages) scratch) old old 0
-none_reported ages scratch old lent =
-    let s = lent.scratch_room_fits in
-    let r = lent.report_room_fits in
-    let all = length-take-le (scratch_room ages) scratch s in
-    record { all = all; left_is = refl; within = omega arith; written = refl; room = rw all r }
-
 module _ {ages : ℕ} {rows left old report : List ℕ} {number : ℕ} (p : Reported ages rows left old report number) where
   abbrev at : ℕ
   at = per_row * number
@@ -43,13 +33,6 @@ module _ {ages : ℕ} {rows left old report : List ℕ} {number : ℕ} (p : Repo
       let w = p.within in
       let r = p.room in
       rw p.written (length_over (take at rows) old (rw (length-take-le at rows w) (omega arith)))
-
-  -- no whole row is left
-  pub reported_all : length left < per_row → report ≡ over rows old
-  reported_all none =
-      let w = p.within in
-      let over_all : length rows ≤ at = omega (arith, p.all, sym (length-drop at rows) ∙ ap length (sym p.left_is)) in
-      p.written ∙ ap (λ (l : List ℕ). over l old) (take_all at rows over_all)
 
   module _ (row rest : List ℕ) (next : left ≡ row ++ rest) (whole : length row ≡ per_row) where
     rows_left : drop at rows ≡ row ++ rest

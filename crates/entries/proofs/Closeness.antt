@@ -1,19 +1,24 @@
--- Demand 3 of whatever fields give: an accepted member has the facts that the theorem asks for. Assumes nothing.
-use mathlib.Core.Path.{◌≡◌}
-use mathlib.Core.List.{List}
-use Prim.Native.Nat.{ℕ, ◌+◌, ◌*◌, ◌≤◌}
-use lib.ListN.{drop}
+-- Demand 3 of whatever fields give: an accepted member has the facts that the theorem asks for. So it has a row for each age, and each row
+-- its numbers. Assumes nothing.
+use mathlib.Core.Path.{◌≡◌, refl}
+use mathlib.Core.List.{List, [], ◌∷◌}
+use Prim.Native.Nat.{ℕ, ◌*◌, ◌≤◌}
+use native.Mathlib.Omega.{arith}
+use lib.ListN.{length}
 use Rattle.std.specs.Prelude.{Ok}
 use Rattle.fields.specs.declared.read.Counts.{Counts}
-use Rattle.fields.specs.Quantities.{head_fields, per_segment, Quantities, quantities_with}
-use Rattle.fields.specs.Limits.{most_segments, most_ages}
-use Rattle.fields.proofs.Laws.{segments_length, ages_length}
+use Rattle.fields.specs.Quantities.{Quantities, quantities_with}
+use Rattle.fields.specs.Limits.{per_row, most_segments, most_ages}
+use Rattle.fields.specs.Readable.{Readable}
+use Rattle.fields.proofs.Counting.{path_counted, ages_counted}
 use Rattle.fields.proofs.Onward.{through}
 use Rattle.member.specs.Member.{checked_of}
 use Rattle.member.proofs.Laws.{accepted}
+use Rattle.stages.specs.declared.intervals.Row.{Row}
 use Rattle.stages.specs.Run.{Report, member_result, result_of}
 use Rattle.tolerance.specs.Demand.{Demand3}
 use Rattle.tolerance.proofs.Demand3.{demand_3}
+use Rattle.entries.specs.Answers.{numbers_of_rows}
 
 module _ (counts : Counts) (numbers : List ℕ) (few_segments : counts.segments ≤ most_segments) (few_ages : counts.ages ≤ most_ages) where
   abbrev q : Quantities
@@ -23,6 +28,18 @@ module _ (counts : Counts) (numbers : List ℕ) (few_segments : counts.segments 
   close report scratch given e =
       let run = through (checked_of q report scratch) (λ m. member_result m q.ages) e in
       let known = accepted q report scratch run.given_is in
-      demand_3 q report scratch (rw (segments_length counts.segments (drop head_fields numbers)) few_segments)
-      (rw (ages_length counts.ages (drop (head_fields + per_segment * counts.segments) numbers)) few_ages) known.facts given
+      demand_3 q report scratch (rw (path_counted counts numbers) few_segments)
+      (rw (ages_counted counts numbers) few_ages) known.facts given
       (rw known.is at run.next_is)
+
+-- ---- the rows of an accepted run
+
+pub row_count : (counts : Counts) (numbers : List ℕ) {q : Quantities} → quantities_with counts numbers ≡ q → Readable counts numbers
+    → (report scratch : ℕ) (given : Report) → result_of q report scratch ≡ Ok given → length given.rows ≡ length q.ages
+row_count counts numbers is readable report scratch given =
+    rw (← is) (λ gives. (close counts numbers readable.segments_most readable.ages_most report scratch given gives).linked.rows_count)
+
+pub rows_length : (rows : List Row) → length (numbers_of_rows rows) ≡ per_row * length rows
+unfolding numbers_of_rows
+rows_length [] = refl
+rows_length (row ∷ rows) = omega (arith, rows_length rows)

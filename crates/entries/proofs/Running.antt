@@ -12,10 +12,8 @@ use Rattle.logarithm.specs.Logarithm.{service_life}
 use Rattle.fields.specs.declared.refusal.Refusal.{Refusal}
 use Rattle.fields.specs.Outcomes.{OrRefusal, onward, over}
 use Rattle.fields.specs.declared.segments.Age.{Age}
-use Rattle.fields.specs.Quantities.{per_age, age_at, ages_of}
 use Rattle.fields.specs.Limits.{per_row, most_moment}
 use Rattle.fields.proofs.Buffers.{length_over, written_behind}
-use Rattle.checks.proofs.Items.{next_age}
 use Rattle.member.specs.declared.Member.{Member}
 use Rattle.member.specs.Facts.{RisingFrom, rises, MomentsWithin, adds}
 use Rattle.formulas.specs.Conditions.{stress_limit}
@@ -27,13 +25,9 @@ use Rattle.stages.proofs.Passing.{row_fits, row_refuses}
 use Rattle.entries.specs.Answers.{numbers_of_row, numbers_of_rows}
 use Rattle.entries.specs.RunAges.{RanAges}
 use Rattle.entries.specs.Conditions.{AgesRunnable}
+use Rattle.entries.proofs.BufferRows.{part_room}
 
 -- ---- the ages that are left
-
--- the fields of the first of them, and of the others
-pub next_left : {fields : List ℕ} (part rest : List ℕ) {size : ℕ} {age : Age} → fields ≡ part ++ rest → length part ≡ size → size ≡ per_age
-    → age ≡ age_at part → ages_of fields ≡ age ∷ ages_of rest
-next_left part rest is whole two age_is = rw (is, age_is) (next_age part rest (whole ∙ two))
 
 -- what is known of the first of them, and of the others
 hour_within : {before : ℕ} {age : Age} {ages : List Age} → RisingFrom before (age ∷ ages) → age.hour ≤ service_life
@@ -212,3 +206,6 @@ module _ {m : Member} {ages : List Age} {first : ℕ} {old scratch : List ℕ} {
               room = r;
               kept = rw written_then (length_over (numbers_of_rows rows_then) old (omega (arith, ap length next)));
             }
+
+-- what an age's code asks for
+pub ruleset an_age = (begins, moments_most, hour_fits, row_within, part_room)

@@ -18,12 +18,7 @@ pub record AgesFit (m : Member) (ages : List Age) : Type 0 where
   pub rise : RisingFrom m.hours.transfer ages
   pub moments_fit : MomentsWithin m.own_weight_moment ages
 
--- of the run of a member
-pub record Runnable (m : Member) (ages : List Age) (report scratch : List ℕ) : Type 0 where
-  pub ages_fit : AgesFit m ages
-  pub room : RoomForRows (length ages) report scratch
-
--- of the run of its ages, from the end at transfer and the stress that is left there on
+-- of their run, from the end at transfer and the stress that is left there on
 pub record AgesRunnable (m : Member) (ages : List Age) (transfer : End) (stress : ℕ) (scratch : List ℕ) : Type 0 where
   pub ages_fit : AgesFit m ages
   pub transfer_is : transfer ≡ transfer_end m

@@ -1,5 +1,5 @@
-// The rows of the ages, and their way from the scratch to the report. Document 01 names the form of each step: "the rows of later ages go in
-// the rest of the report buffer", so that the `&mut` part from the current row on is lent to the writer of the row.
+// The rows of the ages, and their way from the scratch to the report. Document 01 names the form of each step: "the rows of later ages go
+// in the rest of the report buffer", so that the `&mut` part from the current row on is lent to the writer of the row, of the scratch too.
 ghost use Rattle.std.specs.Prelude.{◌≡◌, ◌≤◌, length, take};
 ghost use Rattle.fields.specs.Outcomes.{over};
 ghost use Rattle.fields.specs.Limits.{scratch_room};

@@ -38,7 +38,7 @@ const SHEETS: [&str; 3] = [
     "simple_span_one_mean.card",
 ];
 
-// What a program prints for a card.
+// What a program prints for a card. cards.rt of cases says why it has one like it.
 fn print_card(rt: &(impl Files + Print + Eprint), program: Program, path: &str) {
     match fs::open(rt, path) {
         Ok(mut file) => {

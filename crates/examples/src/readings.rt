@@ -36,7 +36,7 @@ const LOGARITHM_HOURS: [u32; 17] = [
 fn print_logarithms(rt: &impl Print) {
     print_title(rt, "hour, logarithm");
     for hour in LOGARITHM_HOURS {
-        print_numbers(rt, &[hour as u64, logarithm::reading(hour)]);
+        print_numbers(rt, &[u64::from(hour), logarithm::reading(hour)]);
     }
 }
 
@@ -47,10 +47,10 @@ fn print_clocks_at(rt: &impl Print, member: MemberHours, hour: u32) {
     print_numbers(
         rt,
         &[
-            hour as u64,
-            since_transfer.0 as u64,
-            since_curing.0 as u64,
-            since_tensioning.0 as u64,
+            u64::from(hour),
+            u64::from(since_transfer.0),
+            u64::from(since_curing.0),
+            u64::from(since_tensioning.0),
         ],
     );
 }
@@ -96,7 +96,7 @@ fn print_size_factors(rt: &impl Print) {
         print_numbers(
             rt,
             &[
-                volume_to_surface as u64,
+                u64::from(volume_to_surface),
                 coefficient::scf_of(volume_to_surface),
                 coefficient::ssf_of(volume_to_surface),
             ],
@@ -127,7 +127,7 @@ fn print_age_factors(rt: &impl Print) {
         print_numbers(
             rt,
             &[
-                transfer as u64,
+                u64::from(transfer),
                 coefficient::mcf_of(Cure::Moist, transfer),
                 coefficient::mcf_of(Cure::Accelerated, transfer),
             ],
@@ -139,7 +139,7 @@ fn print_whole_losses_at(rt: &impl Print, ec: u32) {
     print_numbers(
         rt,
         &[
-            ec as u64,
+            u64::from(ec),
             coefficient::ucr_of(Cure::Moist, Concrete::Normal, ec),
             coefficient::ucr_of(Cure::Moist, Concrete::Lightweight, ec),
             coefficient::ucr_of(Cure::Accelerated, Concrete::Normal, ec),

@@ -53,11 +53,11 @@ fn print_shares<F: Fn(u32) -> u64>(rt: &impl Print, share: F, rows: &[u32; ROWS]
             low.midpoint(*high),
             high.saturating_sub(1),
         ] {
-            print_numbers(rt, &[hour as u64, share(hour)]);
+            print_numbers(rt, &[u64::from(hour), share(hour)]);
         }
     }
     for hour in [LIFE, LIFE + 1] {
-        print_numbers(rt, &[hour as u64, share(hour)]);
+        print_numbers(rt, &[u64::from(hour), share(hour)]);
     }
 }
 

@@ -1,7 +1,8 @@
+pub mod Along
 pub mod Buffers
+pub mod Counting
 pub mod Laws
 pub mod Onward
 pub mod Padding
 pub mod Refusals
-pub mod Parts
 pub mod Reading

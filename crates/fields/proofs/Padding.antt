@@ -5,7 +5,7 @@ use mathlib.Core.List.{List, [], ◌∷◌, ◌++◌}
 use Prim.Native.Nat.{ℕ, zero, suc, ◌+◌, ◌*◌}
 use lib.ListN.{length, get_or, drop, replicate}
 use lib.Seq.{get_or-drop}
-use Rattle.fields.specs.Quantities.{head_fields, per_segment, per_age, segments_from, ages_from, quantities_with}
+use Rattle.fields.specs.Quantities.{head_fields, per_segment, per_age, segment_at, age_at, parts_from, quantities_with}
 use Rattle.fields.specs.declared.read.Counts.{Counts}
 use Rattle.fields.specs.Outcomes.{over}
 
@@ -17,53 +17,32 @@ pub drop_same : (count : ℕ) (fields others : List ℕ) → Same fields others 
 drop_same count fields others same k =
     get_or-drop count fields k 0 ∙ same (count + k) ∙ sym (get_or-drop count others k 0)
 
-segments_same : (count : ℕ) (fields others : List ℕ) → Same fields others → segments_from count fields ≡ segments_from count others
-unfolding segments_from
-segments_same zero fields others same = refl
-segments_same (suc count) fields others same =
+parts_same : {A : Type 0} (width : ℕ) (part_at : List ℕ → A)
+    → ((fields others : List ℕ) → Same fields others → part_at fields ≡ part_at others) → (count : ℕ) (fields others : List ℕ)
+    → Same fields others → parts_from width part_at count fields ≡ parts_from width part_at count others
+unfolding parts_from
+parts_same width part_at alike zero fields others same = refl
+parts_same width part_at alike (suc count) fields others same =
     rw (
-      same 0,
-      same 1,
-      same 2,
-      segments_same count (drop per_segment fields) (drop per_segment others) (drop_same per_segment fields others same),
+      alike fields others same,
+      parts_same width part_at alike count (drop width fields) (drop width others) (drop_same width fields others same),
     )
 
-ages_same : (count : ℕ) (fields others : List ℕ) → Same fields others → ages_from count fields ≡ ages_from count others
-unfolding ages_from
-ages_same zero fields others same = refl
-ages_same (suc count) fields others same =
-    rw (same 0, same 1, ages_same count (drop per_age fields) (drop per_age others) (drop_same per_age fields others same))
+segments_same : (fields others : List ℕ) → Same fields others → segment_at fields ≡ segment_at others
+segments_same fields others same = simp same
+
+ages_same : (fields others : List ℕ) → Same fields others → age_at fields ≡ age_at others
+ages_same fields others same = simp same
 
 pub same_quantities : (counts : Counts) (fields others : List ℕ) → Same fields others
     → quantities_with counts fields ≡ quantities_with counts others
 same_quantities counts fields others same =
     let first_age = head_fields + per_segment * counts.segments in
-    rw (
-      same 0,
-      same 1,
-      same 2,
-      same 3,
-      same 4,
-      same 5,
-      same 6,
-      same 7,
-      same 8,
-      same 9,
-      same 10,
-      same 11,
-      same 12,
-      same 13,
-      same 14,
-      same 15,
-      same 16,
-      same 17,
-      same 18,
-      same 19,
-      same 20,
-      same 21,
-      segments_same counts.segments (drop head_fields fields) (drop head_fields others) (drop_same head_fields fields others same),
-      ages_same counts.ages (drop first_age fields) (drop first_age others) (drop_same first_age fields others same),
-    )
+    simp same
+    (rw (
+      parts_same per_segment segment_at segments_same counts.segments _ _ (drop_same head_fields fields others same),
+      parts_same per_age age_at ages_same counts.ages _ _ (drop_same first_age fields others same),
+    ))
 
 -- ---- zeros behind the fields
 

@@ -2,7 +2,6 @@
 use mathlib.Core.Path.{◌≡◌, refl, sym}
 use mathlib.Core.List.{List}
 use Prim.Native.Nat.{ℕ}
-use native.Mathlib.Omega.{arith}
 use lib.ListN.{replicate}
 use Rattle.std.specs.Prelude.{Ok, Err}
 use Rattle.fields.specs.declared.read.Counts.{Counts}
@@ -19,7 +18,7 @@ pub of_read : (outcome : Outcome) (P : Quantities → Type 0)
 of_read outcome P holds q = by outcome.reading refl
   where
     by : (reading : OrRefusal Counts) → outcome.reading ≡ reading → quantities_in reading outcome.numbers ≡ Ok q → P q
-    by (Err refusal) e read = let never : ◌≡◌ {A = ℕ} 0 1 = cc in absurd (omega arith)
+    by (Err refusal) e read = cc
     by (Ok counts) e read =
         let same : quantities_with counts outcome.numbers ≡ q = cc in rw same at (holds counts e)
 

@@ -4,3 +4,4 @@ pub mod Refusals
 pub mod Limits
 pub mod Sizes
 pub mod Readable
+pub mod Along

@@ -1,5 +1,5 @@
 -- The promise rests on it. Document 01, "The card": how its fields are set and numbered, and the quantities that they are, by name.
-use Rattle.std.specs.Prelude.{ℕ, suc, ◌+◌, ◌*◌, zero, ◌-◌, ◌/◌, Bool, List, [], ◌∷◌, eqb, length, get_or, drop, Ok, Err}
+use Rattle.std.specs.Prelude.{ℕ, suc, ◌+◌, ◌*◌, zero, ◌-◌, Bool, List, [], ◌∷◌, eqb, get_or, drop, Ok, Err}
 use Rattle.fields.specs.declared.read.Counts.{Counts}
 use Rattle.fields.specs.declared.segments.Segment.{Segment}
 use Rattle.fields.specs.declared.segments.Age.{Age}
@@ -127,20 +127,16 @@ segment_at fields = record { kind = get_or fields 0 0; length = get_or fields 1 
 abbrev pub age_at : List ℕ → Age
 age_at fields = record { hour = get_or fields 0 0; moment = get_or fields 1 0 }
 
-unfoldable pub segments_from : ℕ → List ℕ → List Segment
-segments_from zero fields = []
-segments_from (suc count) fields = segment_at fields ∷ segments_from count (drop per_segment fields)
+-- "s lines: .." and "n lines: .." alike: so many parts, one after the other, each of so many fields
+unfoldable pub parts_from : {A : Type 0} → ℕ → (List ℕ → A) → ℕ → List ℕ → List A
+parts_from width part_at zero fields = []
+parts_from width part_at (suc count) fields = part_at fields ∷ parts_from width part_at count (drop width fields)
 
-unfoldable pub ages_from : ℕ → List ℕ → List Age
-ages_from zero fields = []
-ages_from (suc count) fields = age_at fields ∷ ages_from count (drop per_age fields)
+abbrev pub segments_from : ℕ → List ℕ → List Segment
+segments_from count fields = parts_from per_segment segment_at count fields
 
--- the segments, and the ages, that some fields are, all of them
-abbrev pub segments_of : List ℕ → List Segment
-segments_of fields = segments_from (length fields / per_segment) fields
-
-abbrev pub ages_of : List ℕ → List Age
-ages_of fields = ages_from (length fields / per_age) fields
+abbrev pub ages_from : ℕ → List ℕ → List Age
+ages_from count fields = parts_from per_age age_at count fields
 
 -- with so many segments and ages
 abbrev pub quantities_of : ℕ → ℕ → List ℕ → Quantities

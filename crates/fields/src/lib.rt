@@ -4,6 +4,7 @@
 
 pub mod layout;
 pub mod limits;
+pub mod parts;
 pub mod places;
 pub mod read;
 pub mod refusal;

@@ -49,6 +49,7 @@ pub const SEGMENTS: usize = 22;
 pub const AGES: usize = 23;
 
 // Codes stay numbers until row "codes" holds: before it a field may read any number, and the first that is not listed gives the place.
+// Where the code reads one by its number, a line says "a code is a number still".
 pub const PRETENSIONED: u64 = 1;
 
 pub const STRESS_RELIEVED: u64 = 1;

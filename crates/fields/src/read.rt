@@ -1,13 +1,16 @@
 // What reading a card or a list gives: its counts of segments and of ages, and its fields.
-ghost use Rattle.std.specs.Prelude.{◌≡◌, ◌*◌, List, length};
-ghost use Rattle.fields.specs.Quantities.{per_segment, per_age, Quantities, is_pretensioned, is_moist, segments_of, ages_of, quantities_with};
+ghost use Rattle.std.specs.Prelude.{◌≡◌, List, length};
+ghost use Rattle.fields.specs.Quantities.{Quantities, is_pretensioned, is_moist, first_segment_field, first_age_field, quantities_with};
+ghost use Rattle.fields.specs.Along.{segments_of, ages_of};
 ghost use Rattle.fields.specs.Outcomes.{Outcome, over};
 ghost use Rattle.fields.specs.Readable.{Readable, AcceptedIfRead};
 
-use crate::layout::{HEAD_FIELDS, PER_AGE, PER_SEGMENT};
+use crate::layout::{HEAD_FIELDS, PER_SEGMENT};
 use crate::limits::MOST_FIELDS;
+use crate::parts::Parts;
 use crate::places;
 use crate::refusal::Refusal;
+use crate::segments::{Age, Segment};
 use std::marker::Model;
 
 #[derive(Clone, Copy)]
@@ -39,6 +42,7 @@ impl<'a> Fields<'a> {
         Fields { numbers, counts }
     }
 
+    // A code is a number still, here and below.
     pub fn is_pretensioned(&self) -> bool
         ensures { result ≡ is_pretensioned self.now }
     {
@@ -51,25 +55,21 @@ impl<'a> Fields<'a> {
         self.numbers[places::CURE] == places::MOIST
     }
 
-    // The fields of the path's segments.
-    pub fn path(&self) -> &'a [u64]
-        ensures whole { length result.now ≡ per_segment * length self.now.path }
-        ensures path { segments_of result.now ≡ self.now.path }
+    // The path's segments.
+    pub fn path(&self) -> Parts<'a, Segment>
+        ensures place { result.place ≡ first_segment_field }
+        ensures path { segments_of result.fields.now ≡ self.now.path }
     {
-        let numbers = self.numbers;
-        let part = &numbers[..];
-        &part[HEAD_FIELDS..HEAD_FIELDS + PER_SEGMENT * self.counts.segments]
+        Parts::of(self.numbers, HEAD_FIELDS, self.counts.segments)
     }
 
-    // The fields of the ages.
-    pub fn ages(&self) -> &'a [u64]
-        ensures whole { length result.now ≡ per_age * length self.now.ages }
-        ensures ages { ages_of result.now ≡ self.now.ages }
+    // The ages.
+    pub fn ages(&self) -> Parts<'a, Age>
+        ensures place { result.place ≡ first_age_field (length self.now.path) }
+        ensures ages { ages_of result.fields.now ≡ self.now.ages }
     {
         let first_age = HEAD_FIELDS + PER_SEGMENT * self.counts.segments;
-        let numbers = self.numbers;
-        let part = &numbers[..];
-        &part[first_age..first_age + PER_AGE * self.counts.ages]
+        Parts::of(self.numbers, first_age, self.counts.ages)
     }
 }
 

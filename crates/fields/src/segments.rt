@@ -1,8 +1,12 @@
 // A segment of the path and an age, as their fields stand on a card or a list.
-ghost use Rattle.std.specs.Prelude.{◌≡◌, ◌≤◌, length};
+ghost use Rattle.std.proofs.Common.{rules};
 ghost use Rattle.fields.specs.Quantities.{per_segment, per_age, segment_at, age_at};
+ghost use Rattle.fields.specs.Along.{segment_front, age_front};
 
-// A bend has its angle in place of a rise.
+use crate::layout::{PER_AGE, PER_SEGMENT};
+use crate::parts::Part;
+
+// A bend has its angle in place of a rise. A code is a number still, so that the kind is one.
 #[derive(Clone, Copy)]
 pub struct Segment {
     pub kind: u64,
@@ -16,29 +20,41 @@ pub struct Age {
     pub moment: u64,
 }
 
-impl Segment {
-    // The segment whose fields `part` begins with.
-    pub fn at(part: &[u64]) -> Segment
-        requires { per_segment ≤ length part.now }
-        ensures { result ≡ segment_at part.now }
-    {
+impl Part for Segment {
+    ghost FIELDS = { per_segment };
+
+    const FIELDS: usize = PER_SEGMENT;
+
+    ghost part_at = { segment_at };
+
+    fn at(fields: &[u64]) -> Segment {
         Segment {
-            kind: part[0],
-            length: part[1],
-            rise: part[2],
+            kind: fields[0],
+            length: fields[1],
+            rise: fields[2],
         }
     }
+
+    ghost some_fields = { Prim.search rules };
+
+    ghost front = { segment_front };
 }
 
-impl Age {
-    // The age whose fields `part` begins with.
-    pub fn at(part: &[u64]) -> Age
-        requires { per_age ≤ length part.now }
-        ensures { result ≡ age_at part.now }
-    {
+impl Part for Age {
+    ghost FIELDS = { per_age };
+
+    const FIELDS: usize = PER_AGE;
+
+    ghost part_at = { age_at };
+
+    fn at(fields: &[u64]) -> Age {
         Age {
-            hour: part[0],
-            moment: part[1],
+            hour: fields[0],
+            moment: fields[1],
         }
     }
+
+    ghost some_fields = { Prim.search rules };
+
+    ghost front = { age_front };
 }

@@ -1,4 +1,4 @@
--- How large a loss or a gain can be, for callers that add them up: each product is bounded, and a division does not raise it.
+-- How large a loss can be, for callers that add them up: each product is bounded, and a division does not raise it.
 -- Assumes nothing.
 use Prim.Native.Nat.{ℕ, ◌*◌, ◌/◌, ◌^◌, ◌≤◌, ◌<◌}
 use native.Mathlib.Nat.{div-le_self, div-le_of_le-mul, le_trans, mul-le-mul_left}
@@ -8,10 +8,9 @@ use Rattle.coefficient.specs.declared.codes.Steel.{Steel}
 use Rattle.coefficient.specs.declared.codes.Steel.TheVariants.{StressRelieved, LowRelaxation}
 use Rattle.exponential.proofs.Turns.{factor_most}
 use Rattle.formulas.specs.Steps.{stress_left, yield, relaxation_divisor, relaxation_factor, relaxation_loss}
-use Rattle.formulas.specs.Steps.{moment_stress, concrete_stress, creep_loss, shrinkage_loss, moment_gain}
+use Rattle.formulas.specs.Steps.{moment_stress, concrete_stress, creep_loss, shrinkage_loss}
 use Rattle.formulas.specs.Conditions.{stress_limit, least_strength, logarithm_limit, least_inertia, most_moment_stress, creep_limit}
-use Rattle.formulas.specs.Conditions.{most_gain}
-use Rattle.formulas.specs.Conditions.{RelaxationFits, MomentsFit, ConcreteFits, CreepFits, ShrinkageFits, GainFits}
+use Rattle.formulas.specs.Conditions.{RelaxationFits, MomentsFit, ConcreteFits, CreepFits, ShrinkageFits}
 use Rattle.formulas.proofs.Products.{product}
 
 -- the factor of friction is at most T
@@ -69,8 +68,3 @@ pub moment_stress_most : {moments eccentricity inertia : ℕ} → MomentsFit mom
 moment_stress_most {inertia = inertia} fits least =
     div-le_of_le-mul inertia
     (le_trans (product 41 17 (omega arith) (omega arith)) (omega (arith, mul-le-mul_left most_moment_stress least)))
-
-pub gain_most : {es ec rise : ℕ} → GainFits es ec rise → moment_gain es ec rise ≤ most_gain
-gain_most {ec = ec} fits =
-    div-le_of_le-mul ec
-    (le_trans (product 25 48 (omega arith) fits.rise_most) (omega (arith, mul-le-mul_left most_gain fits.ec_least)))

@@ -1,4 +1,5 @@
-// Slip that dies out along the path, of document 02, W5: the drop at the jack and at the section, and how far the slip reaches.
+// Slip that dies out along the path, of document 02, W5: the drop at the jack and at the section, and how far the slip reaches. Each takes
+// the numbers of its formula by the document's names, d and P among them; a struct of these two would be none of its names.
 ghost use Rattle.std.specs.Prelude.{◌≡◌, ◌+◌, ◌*◌, ◌<◌};
 ghost use Rattle.ticks.specs.Ticks.{ticks_per_unit};
 ghost use Rattle.formulas.specs.Steps.{dies_out, drop_at_jack, passes_tendon, drop_at_section};

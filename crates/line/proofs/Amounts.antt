@@ -98,7 +98,8 @@ module _ {blank : Option Blank} {bytes : List ℕ} {count field : ℕ} {old now 
       let numbers : line_numbers blank count field bytes ≡ front = rw f.shaped all in
       record { value = rw f.shaped e; fields_after = f.is ∙ ap (λ (l : List ℕ). over l old) (sym numbers) }
 
-  pub turn : (number : ℕ) → done < count → field_of (blank_reads blank (field + done)) (take columns (drop (columns * done) bytes)) ≡ Some number
+  pub turn : (number : ℕ) → done < count
+      → field_of (blank_reads blank (field + done)) (take columns (drop (columns * done) bytes)) ≡ Some number
       → Front blank bytes count field old (set now done number) (done + 1)
   unfolding amounts_of numbers_in
   turn number h e =

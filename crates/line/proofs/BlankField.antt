@@ -83,7 +83,8 @@ written_amount one other bytes written = by_spaces (eqb (spaces_in bytes) (lengt
     by_spaces false q = rw q
 
 -- what reads a number where a blank field reads none has that number written
-pub number_written : (blank : Option ℕ) (number : ℕ) (bytes : List ℕ) → field_of None bytes ≡ Some number → field_of blank bytes ≡ Some number
+pub number_written : (blank : Option ℕ) (number : ℕ) (bytes : List ℕ) → field_of None bytes ≡ Some number
+    → field_of blank bytes ≡ Some number
 number_written blank number bytes e = by_spaces (eqb (spaces_in bytes) (length bytes)) refl
   where
     by_spaces : (b : Bool) → eqb (spaces_in bytes) (length bytes) ≡ b → field_of blank bytes ≡ Some number

@@ -1,22 +1,22 @@
 -- A field's columns: where what is written in it begins, and a turn of the loop over its digits. Assumes nothing.
 use mathlib.Core.Path.{◌≡◌, refl, sym, ◌∙◌}
-use mathlib.Core.Bool.{Bool, true, false, cond, not, and-eq-true_iff}
+use mathlib.Core.Bool.{Bool, true, false, not, and-eq-true_iff}
 use mathlib.Core.List.{List, ◌∷◌}
-use Prim.Native.Nat.{ℕ, suc, ◌+◌, ◌-◌, ◌*◌, ◌^◌, ◌≤◌, ◌<◌}
+use Prim.Native.Nat.{ℕ, ◌+◌, ◌-◌, ◌*◌, ◌^◌, ◌≤◌, ◌<◌}
 use native.Mathlib.Nat.{pow-suc, pow-le-pow_right, lt_of_lt_of_le}
 use native.Mathlib.Numerals.{add-one}
 use native.Mathlib.Omega.{arith}
-use lib.Dec.{leb, eqb, ltb, lit<}
+use lib.Dec.{leb, eqb, lit<}
 use lib.ListN.{length, get_or, drop, drop_of_length-le}
 use lib.Seq.{drop-cons}
-use borrow.Author.Tests.{leb-true, ltb-false}
-use Rattle.std.specs.Prelude.{Some, None}
+use borrow.Author.Tests.{leb-true}
+use Rattle.std.specs.Prelude.{Option, Some, None}
 use Rattle.std.specs.List.{position, position_or_len}
-use Rattle.std.specs.Option.{unwrap_or}
+use Rattle.std.proofs.lemmas.Grind.{common_steps}
 use Rattle.std.proofs.lemmas.List.Recursion.{is_position_or_len}
 use Rattle.std.proofs.lemmas.List.Sums.{prefix_len-le-length}
 use Rattle.fields.specs.Quantities.{columns}
-use Rattle.line.specs.Lines.{space, zero_digit, nine_digit, is_digit, digits_of, spaces_in}
+use Rattle.line.specs.Lines.{space, zero_digit, nine_digit, is_digit, digits_of, spaces_in, field_of}
 
 -- ---- the spaces in front
 
@@ -25,25 +25,15 @@ no_space byte = not (eqb byte space)
 
 spaces_are : (bytes : List ℕ) → spaces_in bytes ≡ position_or_len no_space bytes
 unfolding spaces_in
-spaces_are bytes = is_position_or_len spaces_in no_space refl (λ byte bytes. by_byte (eqb byte space) (spaces_in bytes)) bytes
-  where
-    by_byte : (is : Bool) (behind : ℕ) → cond is (suc behind) 0 ≡ cond (not is) 0 (1 + behind)
-    by_byte true behind = omega arith
-    by_byte false behind = refl
+spaces_are bytes = is_position_or_len spaces_in no_space refl (λ byte bytes. grind (arith, common_steps)) bytes
 
-pub first_written : (bytes : List ℕ) → unwrap_or (position no_space bytes) (length bytes) ≡ spaces_in bytes
-first_written bytes = by_end (ltb (position_or_len no_space bytes) (length bytes)) refl ∙ sym (spaces_are bytes)
-  where
-    by_end : (written : Bool) → ltb (position_or_len no_space bytes) (length bytes) ≡ written
-        → unwrap_or (cond written (Some (position_or_len no_space bytes)) None) (length bytes) ≡ position_or_len no_space bytes
-    by_end true e = refl
-    by_end false e =
-        let most = prefix_len-le-length (λ byte. not (no_space byte)) bytes in
-        let least = ltb-false (position_or_len no_space bytes) (length bytes) e in
-        omega arith
+-- what stands behind the spaces, and a field of spaces alone
+pub written_from : (blank : Option ℕ) (bytes : List ℕ) (first : ℕ) → Some first ≡ position no_space bytes
+    → digits_of 0 (drop first bytes) ≡ field_of blank bytes
+written_from blank bytes first e = grind (arith, common_steps, spaces_are bytes)
 
-pub spaces_within : (bytes : List ℕ) → spaces_in bytes ≤ length bytes
-spaces_within bytes = rw spaces_are (prefix_len-le-length (λ byte. not (no_space byte)) bytes)
+pub nothing_written : (blank : Option ℕ) (bytes : List ℕ) → None ≡ position no_space bytes → blank ≡ field_of blank bytes
+nothing_written blank bytes e = grind (arith, common_steps, spaces_are bytes, prefix_len-le-length)
 
 -- ---- the digits behind them
 
@@ -58,7 +48,8 @@ module _ {bytes : List ℕ} {i number : ℕ} (p : Digits bytes i number) where
     next : drop i bytes ≡ get_or bytes i 0 ∷ drop (i + 1) bytes
     next = drop-cons bytes i 0 h ∙ sym (rw add-one)
 
-    pub a_digit : (digit : ℕ) → is_digit (get_or bytes i 0) ≡ true → digit ≡ get_or bytes i 0 - zero_digit → Digits bytes (i + 1) (number * 10 + digit)
+    pub a_digit : (digit : ℕ) → is_digit (get_or bytes i 0) ≡ true → digit ≡ get_or bytes i 0 - zero_digit
+        → Digits bytes (i + 1) (number * 10 + digit)
     unfolding digits_of
     a_digit digit good e =
         let small = p.small in
@@ -83,3 +74,5 @@ module _ {bytes : List ℕ} {i number : ℕ} (p : Digits bytes i number) where
   pub all_digits : length bytes ≤ i → digits_of 0 bytes ≡ Some number
   unfolding digits_of
   all_digits h = p.is ∙ rw (drop_of_length-le bytes {i = i} h)
+
+pub ruleset digits_along = (a_digit, no_digit, fits, all_digits)

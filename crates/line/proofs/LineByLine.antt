@@ -7,7 +7,7 @@ use native.Mathlib.Nat.{zero-add, add-zero, add_assoc, add_comm, mul-zero, mul-s
 use native.Mathlib.Numerals.{add-one}
 use native.Mathlib.Omega.{arith}
 use lib.ListN.{length, get_or, take, drop, replicate, length-append, length-drop}
-use lib.Seq.{drop-drop, take-suc, take_all, split_at}
+use lib.Seq.{drop-drop, take-suc, split_at}
 use borrow.Author.Tests.{eqb-true}
 use borrow.Rule.Slice.PartMut.{mid_of, put_mid}
 use Rattle.std.specs.Prelude.{Option, Result, Ok, Err}
@@ -209,9 +209,6 @@ no_lines counts old was room = record {
 
 module _ {counts : List ℕ} {old now : Unread} {was fields : List ℕ} {done read : ℕ}
     (f : LinesFront counts old now was fields done read) where
-  pub all_lines : length counts ≤ done → Behind (lines_from old counts) counts old now × (fields ≡ over (lines_from old counts).numbers was)
-  all_lines h = let all : take done counts ≡ counts = take_all done counts h in (rw all at f.there, rw all at f.is)
-
   module _ (more : done < length counts) where
     abbrev count : ℕ
     count = get_or counts done 0

@@ -3,7 +3,7 @@
 
 ghost use Rattle.std.specs.Prelude.{◌≡◌, ◌≤◌, length, take};
 ghost use Rattle.fields.specs.Quantities.{columns};
-ghost use Rattle.line.specs.Lines.{spaces_in, digits_of, field_of, blank_reads};
+ghost use Rattle.line.specs.Lines.{digits_of, field_of, blank_reads};
 
 pub mod lines;
 
@@ -22,16 +22,8 @@ pub const ZERO: u8 = b'0';
 
 pub const LINE_FEED: u8 = b'\n';
 
-// How many spaces a field begins with.
-fn leading_spaces(field: &[u8]) -> usize
-    ensures { result ≡ spaces_in field.now }
-{
-    field
-        .iter()
-        .position(|byte| *byte != SPACE)
-        .unwrap_or(field.len())
-}
-
+// By hand, since the library's `parse` takes a sign and a number of any length.
+#[tactic(auto, using(crate::proofs::Fields::digits_along, std::proofs::lemmas::Grind::common_steps))]
 fn digits(bytes: &[u8]) -> Option<u64>
     requires { length bytes.now ≤ columns }
     ensures { result ≡ digits_of 0 bytes.now }
@@ -50,24 +42,19 @@ fn digits(bytes: &[u8]) -> Option<u64>
 fn blank_reads(blank: Option<Blank>, field: usize) -> Option<u64>
     ensures { result ≡ blank_reads blank field }
 {
-    let blank = blank?;
-    if field == blank.field {
-        Some(blank.reads)
-    } else {
-        None
-    }
+    blank
+        .filter(|blank| blank.field == field)
+        .map(|blank| blank.reads)
 }
 
 // The number in the columns that `part` begins with, which are field number `field`.
-#[tactic(auto, using(crate::proofs::Fields::spaces_within))]
 fn read_field(part: &[u8], blank: Option<Blank>, field: usize) -> Option<u64>
     requires { columns ≤ length part.now }
     ensures { result ≡ field_of (blank_reads blank field) (take columns part.now) }
 {
     let bytes = &part[..COLUMNS];
-    let first = leading_spaces(bytes);
-    if first == COLUMNS {
-        return blank_reads(blank, field);
+    match bytes.iter().position(|byte| *byte != SPACE) {
+        Some(first) => digits(&bytes[first..]),
+        None => blank_reads(blank, field),
     }
-    digits(&bytes[first..])
 }

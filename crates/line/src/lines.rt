@@ -36,8 +36,8 @@ impl<'a> Unread<'a> {
         }
         // Document 01 names this form: the slice part beginning at a field's column is handed to the number reader.
         let mut part = self.bytes;
-        for done in 0..count {
-            fields[done] = read_field(part, self.blank, self.field + done).ok_or(self.line)?;
+        for (done, number) in fields[..count].iter_mut().enumerate() {
+            *number = read_field(part, self.blank, self.field + done).ok_or(self.line)?;
             part = &part[COLUMNS..];
         }
         self.bytes = &part[1..];
@@ -53,6 +53,7 @@ impl<'a> Unread<'a> {
         ensures value { GoesOn (lines_from self.old counts.now) counts.now self.old self.new result }
         ensures fields_after { fields.new ≡ over (lines_from self.old counts.now).numbers fields.old }
     {
+        // The rest of the numbers is lent to each line, the form that document 01 names for rows.
         let mut read = 0usize;
         for &count in counts {
             self.read_line(count, &mut fields[read..])?;

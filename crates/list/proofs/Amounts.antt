@@ -55,7 +55,11 @@ module _ (segments : ℕ) where
   in_segments : (k : ℕ) → k < per_segment * segments → in_ticks segments (first_segment_field + k) ≡ segment_in_ticks (0 + k)
   in_segments k h =
       let e : first_segment_field + k - first_segment_field ≡ 0 + k = omega arith in
-      rw (lt-leb (first_segment_field + k) head_fields (omega arith), lt-ltb (first_segment_field + k) (first_age_field segments) (omega arith), e)
+      rw (
+        lt-leb (first_segment_field + k) head_fields (omega arith),
+        lt-ltb (first_segment_field + k) (first_age_field segments) (omega arith),
+        e,
+      )
 
   in_ages : (k : ℕ) → in_ticks segments (first_age_field segments + k) ≡ age_in_ticks (0 + k)
   in_ages k =

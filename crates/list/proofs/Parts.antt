@@ -2,19 +2,19 @@
 -- `list::read_fields`. The parts make up the list, and their amounts its amounts. Assumes nothing.
 use mathlib.Core.Path.{◌≡◌, sym, ap, ◌∙◌}
 use mathlib.Core.List.{List, ◌++◌}
-use Prim.Native.Nat.{ℕ, ◌+◌, ◌-◌, ◌*◌, ◌≤◌, ◌<◌}
+use Prim.Native.Nat.{ℕ, ◌+◌, ◌-◌, ◌*◌, ◌≤◌}
 use native.Mathlib.Omega.{arith}
 use lib.Ieee.{Float}
 use lib.ListN.{length, take, drop, length-append, length-drop, take-append-drop}
 use lib.Seq.{take-add, take_all, length-take-le}
 use borrow.Rule.Slice.PartMut.{mid_of, put_mid}
-use Rattle.std.specs.Prelude.{Option}
+use Rattle.std.specs.Prelude.{Option, Result, Ok, Err}
 use Rattle.fields.specs.Quantities.{head_fields, per_segment}
 use Rattle.list.specs.Lists.{head_in_ticks, segment_in_ticks, amounts_of}
 use Rattle.list.specs.Measures.{Written, head_amounts, segments_amounts, ages_amounts}
 use Rattle.list.specs.Laws.{part_length}
 use Rattle.list.proofs.Amounts.{by_parts}
-use Rattle.list.proofs.Numbers.{cut, joined}
+use Rattle.list.proofs.Numbers.{behind_those, cut, joined}
 
 -- where the ages begin, and the doubles of the head, of the segments and of the ages
 abbrev pub first_age : ℕ → ℕ
@@ -68,30 +68,27 @@ module _ (list : List Float) (segments : ℕ) (enough : first_age segments ≤ l
 
   -- ---- the ways out
 
-  module _ (old : List ℕ) {now : List ℕ} {read : ℕ} where
+  module _ (old : List ℕ) {now : List ℕ} where
     -- a field before the ages is refused
-    pub before_ages_refused : Written (before_ages segments list) old now read → read < first_age segments
-        → Written (amounts_of segments 1 list) old now read
-    before_ages_refused w h =
-        let count = before_ages_count in
-        rw (← made_of) (cut (before_ages segments list) old w (ages_amounts (ages_in segments list)) (omega arith))
+    pub before_ages_refused : {read : ℕ} → Written (before_ages segments list) old now (Err read)
+        → Written (amounts_of segments 1 list) old now (Err read)
+    before_ages_refused w = rw (← made_of) (cut (before_ages segments list) old (ages_amounts (ages_in segments list)) w)
 
-    pub head_refused : Written (head_amounts (head_in list)) old now read → read < head_fields
-        → Written (amounts_of segments 1 list) old now read
-    head_refused w h =
-        let count = head_count in
-        before_ages_refused (cut (head_amounts (head_in list)) old w (segments_amounts (segments_in segments list)) (omega arith)) (omega arith)
+    pub head_refused : {read : ℕ} → Written (head_amounts (head_in list)) old now (Err read)
+        → Written (amounts_of segments 1 list) old now (Err read)
+    head_refused w = before_ages_refused (cut (head_amounts (head_in list)) old (segments_amounts (segments_in segments list)) w)
 
-    pub segments_written : {part : List ℕ} {more : ℕ} → Written (head_amounts (head_in list)) old now read → head_fields ≤ read
-        → Written (segments_amounts (segments_in segments list)) (mid_of head_fields (length now - head_fields) now) part more
-        → Written (before_ages segments list) old (put_mid head_fields (length now - head_fields) now part) (head_fields + more)
-    segments_written w all v =
-        joined (head_amounts (head_in list)) old w (segments_amounts (segments_in segments list)) head_fields head_count all v
+    pub segments_written : {part : List ℕ} {reading : Result Unit ℕ} → Written (head_amounts (head_in list)) old now (Ok tt)
+        → Written (segments_amounts (segments_in segments list)) (mid_of head_fields (length now - head_fields) now) part reading
+        → Written (before_ages segments list) old
+        (put_mid head_fields (length now - head_fields) now part) (behind_those head_fields reading)
+    segments_written w v =
+        joined (head_amounts (head_in list)) old (segments_amounts (segments_in segments list)) head_fields w head_count v
 
-    pub ages_written : {part : List ℕ} {more : ℕ} → Written (before_ages segments list) old now read → first_age segments ≤ read
-        → Written (ages_amounts (ages_in segments list)) (mid_of (first_age segments) (length now - first_age segments) now) part more
+    pub ages_written : {part : List ℕ} {reading : Result Unit ℕ} → Written (before_ages segments list) old now (Ok tt)
+        → Written (ages_amounts (ages_in segments list)) (mid_of (first_age segments) (length now - first_age segments) now) part reading
         → Written (amounts_of segments 1 list) old
-        (put_mid (first_age segments) (length now - first_age segments) now part) (first_age segments + more)
-    ages_written w all v =
+        (put_mid (first_age segments) (length now - first_age segments) now part) (behind_those (first_age segments) reading)
+    ages_written w v =
         rw (← made_of)
-        (joined (before_ages segments list) old w (ages_amounts (ages_in segments list)) (first_age segments) before_ages_count all v)
+        (joined (before_ages segments list) old (ages_amounts (ages_in segments list)) (first_age segments) w before_ages_count v)

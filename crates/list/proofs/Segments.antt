@@ -3,14 +3,14 @@
 -- Assumes nothing.
 use mathlib.Core.Path.{◌≡◌, refl, sym, ap, ◌∙◌}
 use mathlib.Core.Bool.{Bool, true, false, ◌&&◌, cond, and-eq-true_iff}
-use mathlib.Core.List.{List, [], ◌∷◌, ◌++◌, append_assoc, append-nil}
-use Prim.Native.Nat.{ℕ, suc, ◌+◌, ◌-◌, ◌%◌, ◌≤◌, ◌<◌}
+use mathlib.Core.List.{List, [], ◌∷◌, ◌++◌, append_assoc}
+use Prim.Native.Nat.{ℕ, suc, ◌+◌, ◌-◌, ◌%◌, ◌≤◌}
 use native.Mathlib.Omega.{arith}
 use lib.Ieee.{Float, nan}
 use lib.ListN.{length, get_or, length-append}
 use borrow.Author.Tests.{eq-eqb, ne_eqb, eqb-true}
 use borrow.Rule.Slice.PartMut.{mid_of, put_mid}
-use Rattle.std.specs.Prelude.{Option, Some, None}
+use Rattle.std.specs.Prelude.{Option, Some, None, Result, Ok, Err}
 use Rattle.fields.specs.Quantities.{per_segment, straight, parabola, bend}
 use Rattle.fields.specs.Outcomes.{numbers_in}
 use Rattle.list.specs.declared.Segment.TheVariants.{Straight, Parabola, Bend}
@@ -20,7 +20,7 @@ use Rattle.list.specs.Lists.{ticks_in, whole_in, segment_in_ticks, amounts_by}
 use Rattle.list.specs.Measures.{Written, is, is_straight, is_parabola, is_bend, entry_of, amounts_of_entry, segments_amounts}
 use Rattle.list.specs.Laws.{part_length}
 use Rattle.list.proofs.Amounts.{part_append}
-use Rattle.list.proofs.Numbers.{count_within, kept, cut, joined}
+use Rattle.list.proofs.Numbers.{behind_those, kept, cut, joined}
 
 -- ---- what the three doubles of a segment read
 
@@ -84,7 +84,7 @@ pub record Passed (part rest : List Float) (old now : List ℕ) (at : ℕ) : Typ
   pub segments : length rest % per_segment ≡ 0
   pub room : length part ≤ length old
   pub same : length now ≡ length old
-  pub read : Written (segments_amounts done) old now at
+  pub read : Written (segments_amounts done) old now (Ok tt)
 
 pub begins : (part : List Float) (old : List ℕ) → length part % per_segment ≡ 0 → length part ≤ length old → Passed part part old old 0
 unfolding numbers_in amounts_by
@@ -97,20 +97,10 @@ begins part old segments room =
       segments = segments;
       room = room;
       same = refl;
-      read = record { count_is = refl; buffer_is = refl };
+      read = record { reading_is = refl; buffer_is = refl };
     }
 
-none_left : (rest : List Float) → length rest % per_segment ≡ 0 → length rest < per_segment → rest ≡ []
-none_left [] segments h = refl
-none_left (x ∷ rest) segments h = absurd (omega arith)
-
 module _ {part rest : List Float} {old now : List ℕ} {at : ℕ} (p : Passed part rest old now at) where
-  pub ends : length rest < per_segment → Written (segments_amounts part) old now (length part)
-  ends h =
-      let all : p.done ≡ part =
-      sym (append-nil p.done) ∙ ap (λ (l : List Float). p.done ++ l) (sym (none_left rest p.segments h)) ∙ p.made_up in
-      rw (all, sym p.count ∙ ap length all) at p.read
-
   -- the next segment
   module _ (doubles later : List Float) (next : rest ≡ doubles ++ later) (three : length doubles ≡ per_segment) where
     whole_part : (p.done ++ doubles) ++ later ≡ part
@@ -126,44 +116,32 @@ module _ {part rest : List Float} {old now : List ℕ} {at : ℕ} (p : Passed pa
         ∙ ap (λ (k : ℕ). segments_amounts p.done ++ amounts_by segment_in_ticks k doubles) place
         ∙ ap (λ (l : List (Option ℕ)). segments_amounts p.done ++ l) (segment_reads at doubles p.whole three)
 
-    module _ {buffer : List ℕ} {read : ℕ}
-        (written : Written (amounts_of_entry (entry_in doubles)) (mid_of at (length now - at) now) buffer read) where
-      few : read ≤ per_segment
-      few =
-          let count = entry_count doubles in
-          let within = count_within (amounts_of_entry (entry_in doubles)) (mid_of at (length now - at) now) written in
-          omega arith
-
-      read_with_it : Written (segments_amounts (p.done ++ doubles)) old (put_mid at (length now - at) now buffer) (at + read)
+    module _ {buffer : List ℕ} {reading answer : Result Unit ℕ}
+        (written : Written (amounts_of_entry (entry_in doubles)) (mid_of at (length now - at) now) buffer reading)
+        (is : answer ≡ behind_those at reading) where
+      read_with_it : Written (segments_amounts (p.done ++ doubles)) old (put_mid at (length now - at) now buffer) answer
       read_with_it =
           let long = part_length segment_in_ticks 0 p.done ∙ p.count in
-          rw front (joined (segments_amounts p.done) old p.read (amounts_of_entry (entry_in doubles)) at long (omega arith) written)
+          rw (front, is) (joined (segments_amounts p.done) old (amounts_of_entry (entry_in doubles)) at p.read long written)
 
       count_with_it : length (segments_amounts (p.done ++ doubles)) ≡ at + per_segment
       count_with_it =
           let count = p.count in
           part_length segment_in_ticks 0 (p.done ++ doubles) ∙ simp length-append (omega arith)
 
-      same_after : length (put_mid at (length now - at) now buffer) ≡ length old
-      same_after =
-          let i = inside in
-          let r = p.room in
-          let fields = count_with_it in
-          kept (segments_amounts (p.done ++ doubles)) old read_with_it (omega arith)
-
-      pub stops : read < per_segment → Written (segments_amounts part) old (put_mid at (length now - at) now buffer) (at + read)
-      stops h =
-          let fields = count_with_it in
+      pub stops : {read : ℕ} → answer ≡ Err read → Written (segments_amounts part) old (put_mid at (length now - at) now buffer) (Err read)
+      stops e =
           rw (← whole_part, part_append segment_in_ticks 0 (p.done ++ doubles) later)
-          (cut (segments_amounts (p.done ++ doubles)) old read_with_it _ (omega arith))
+          (cut (segments_amounts (p.done ++ doubles)) old _ (rw e at read_with_it))
 
-      pub turns : per_segment ≤ read → Passed part later old (put_mid at (length now - at) now buffer) (at + per_segment)
-      turns h =
-          let most = few in
-          let all : at + read ≡ at + per_segment = omega arith in
+      pub turns : answer ≡ Ok tt → Passed part later old (put_mid at (length now - at) now buffer) (at + per_segment)
+      turns e =
+          let inside = inside in
+          let room = p.room in
           let count = p.count in
           let whole = p.whole in
           let segments = p.segments in
+          let fields = count_with_it in
           let left : length rest ≡ per_segment + length later =
           simp length-append at (ap length next) ∙ ap (λ (k : ℕ). k + length later) three in
           record {
@@ -173,6 +151,6 @@ module _ {part rest : List Float} {old now : List ℕ} {at : ℕ} (p : Passed pa
             whole = omega arith;
             segments = omega arith;
             room = p.room;
-            same = same_after;
-            read = rw all at read_with_it;
+            same = kept (segments_amounts (p.done ++ doubles)) old read_with_it (omega arith);
+            read = rw e at read_with_it;
           }

@@ -1,11 +1,12 @@
 -- It serves the code alone: what a list gives does not depend on it. What the doubles of a section and of a segment pass through on their
 -- way: document 01, "The section's five measures and each segment arrive as doubles." And the parts in which a list is read.
-use Rattle.std.specs.Prelude.{ℕ, ◌<◌, ◌≡◌, Bool, false, ◌&&◌, cond, List, [], ◌∷◌, eqb, Float, length, get_or, Option, Some, None}
+use Rattle.std.specs.Prelude.{ℕ, ◌<◌, ◌≡◌, Bool, false, ◌&&◌, cond, List, [], ◌∷◌, eqb, Float, length, get_or}
+use Rattle.std.specs.Prelude.{Option, Some, None, Result, Ok, Err}
 use Rattle.list.specs.declared.Section.{Section}
 use Rattle.list.specs.declared.Segment.{Segment}
 use Rattle.list.specs.declared.Entry.{Entry}
 use Rattle.fields.specs.Quantities.{field_number, straight, parabola, bend}
-use Rattle.fields.specs.Outcomes.{numbers_in, over}
+use Rattle.fields.specs.Outcomes.{numbers_in, all_read, over}
 use Rattle.list.specs.Lists.{ticks_in, whole_in, head_in_ticks, segment_in_ticks, age_in_ticks, amounts_by, field_in}
 
 -- ---- the section
@@ -62,9 +63,13 @@ pub record GivenBy (gives : ℕ → Option ℕ → Type 0) (count : ℕ) (amount
   pub count_is : length amounts ≡ count
   pub each : (at : ℕ) (amount : Option ℕ) → at < count → gives at amount → get_or amounts at None ≡ amount
 
--- a buffer into which some fields were read, up to the first that is refused, and how many these are
-pub record Written (amounts : List (Option ℕ)) (old now : List ℕ) (count : ℕ) : Type 0 where
-  pub count_is : count ≡ length (numbers_in amounts)
+-- all fields are read; else how many are before the first that is refused
+abbrev pub reading_of : List (Option ℕ) → Result Unit ℕ
+reading_of amounts = cond (all_read amounts) (Ok tt) (Err (length (numbers_in amounts)))
+
+-- a buffer into which some fields were read, up to the first that is refused, and what is answered
+pub record Written (amounts : List (Option ℕ)) (old now : List ℕ) (reading : Result Unit ℕ) : Type 0 where
+  pub reading_is : reading ≡ reading_of amounts
   pub buffer_is : now ≡ over (numbers_in amounts) old
 
 abbrev pub head_amounts : List Float → List (Option ℕ)

@@ -1,7 +1,7 @@
 // The reader of lists of doubles.
 #![tactic(auto)]
 
-ghost use Rattle.std.specs.Prelude.{◌≡◌, ℕ, ◌<◌, ◌≤◌, ◌||◌, ltb, List, length, slice_index_or, Option};
+ghost use Rattle.std.specs.Prelude.{◌≡◌, ℕ, ◌<◌, ◌≤◌, ◌||◌, ltb, List, length, slice_index_or, Option, IfErr};
 ghost use Rattle.fields.specs.Quantities.{head_fields, per_segment};
 ghost use Rattle.fields.specs.Outcomes.{over};
 ghost use Rattle.list.specs.Lists.{amounts_of, count_in, counts_in, list_outcome};
@@ -35,7 +35,7 @@ pub enum Segment {
 }
 
 // The three doubles of a segment: a segment as document 01 lists it, or what is none, held as it came until the rows "doubles",
-// "codes" and "ranges" refuse it.
+// "codes" and "ranges" refuse it. It is no Result: what is not listed is no error here, and is read on.
 #[derive(Clone, Copy)]
 pub enum Entry {
     Listed(Segment),
@@ -59,7 +59,7 @@ impl Section {
 }
 
 impl Segment {
-    // What its three fields read; the third is a rise, or a bend's angle.
+    // What its three fields read; the third is a rise, or a bend's angle. A code is a number still, as a card's field reads it.
     fn amounts(self) -> [Option<u64>; PER_SEGMENT]
         ensures { result ≡ amounts_of_segment self }
     {
@@ -80,7 +80,8 @@ impl Segment {
 }
 
 impl Entry {
-    // A straight has no rise and a bend no length: where a double says otherwise, its segment is none that is listed.
+    // A straight has no rise and a bend no length: where a double says otherwise, its segment is none that is listed. A code is a number
+    // still.
     fn of(kind: f64, second: f64, third: f64) -> Entry
         ensures { result ≡ entry_of kind second third }
     {
@@ -122,7 +123,7 @@ impl Entry {
     }
 }
 
-// What a field of the head reads.
+// What a field of the head reads. Document 01 says by its number whether it is kept in ticks, and so does its place, here and below.
 #[tactic(auto, using(crate::proofs::Amounts::head_at))]
 fn head_amount(head: &[f64], section: Section, at: usize) -> Option<u64>
     requires { HeadField head.now section at }
@@ -153,63 +154,56 @@ fn age_amount(ages: &[f64], at: usize) -> Option<u64>
     ticks::ticks_of_double(ages[at])
 }
 
-// Writes the numbers of `count` fields up to the first that is refused, and gives how many these are. A field is read by its place, which
-// says how; so the loop goes over places.
-fn write<F: Fn(usize) -> Option<u64>>(count: usize, amount: F, fields: &mut [u64]) -> usize
+// Writes the numbers of `count` fields up to the first that is refused, and fails with how many these are, which is the refused field's
+// place. A field is read by its place, which says how.
+fn write<F: Fn(usize) -> Option<u64>>(
+    count: usize,
+    amount: F,
+    fields: &mut [u64],
+) -> Result<(), usize>
     requires callable { (at : ℕ) → at < count → F.pre amount at }
     requires room { count ≤ length fields.old }
-    ensures within { result ≤ count }
+    ensures within { IfErr result (λ read. read < count) }
     ensures written { (amounts : List (Option ℕ)) → GivenBy (F.post amount) count amounts → Written amounts fields.old fields.new result }
 {
-    for at in 0..count {
-        let Some(number) = amount(at) else {
-            return at;
-        };
-        fields[at] = number;
+    for (at, number) in fields[..count].iter_mut().enumerate() {
+        *number = amount(at).ok_or(at)?;
     }
-    count
+    Ok(())
 }
 
 // The same of the segments: each is made once of its three doubles, and read as what it then is.
-fn read_segments(part: &[f64], fields: &mut [u64]) -> usize
+fn read_segments(part: &[f64], fields: &mut [u64]) -> Result<(), usize>
     requires { SegmentsFit part.now fields.old }
     ensures { Written (segments_amounts part.now) fields.old fields.new result }
 {
     for (passed, doubles) in part.chunks_exact(PER_SEGMENT).enumerate() {
+        // The rest of the numbers is lent to each, the form that document 01 names for rows.
         let at = PER_SEGMENT * passed;
         let amounts = Entry::of(doubles[0], doubles[1], doubles[2]).amounts();
-        let read = write(PER_SEGMENT, |k| amounts[k], &mut fields[at..]);
-        if read < PER_SEGMENT {
-            return at + read;
-        }
+        write(PER_SEGMENT, |k| amounts[k], &mut fields[at..]).map_err(|read| at + read)?;
     }
-    part.len()
+    Ok(())
 }
 
 // The same of the whole list, part by part.
-fn read_fields(list: &[f64], segments: usize, fields: &mut [u64]) -> usize
+fn read_fields(list: &[f64], segments: usize, fields: &mut [u64]) -> Result<(), usize>
     requires { ListFits list.now segments fields.old }
     ensures { Written (amounts_of segments 1 list.now) fields.old fields.new result }
 {
     let head = &list[..HEAD_FIELDS];
     let section = Section::of(head);
-    let read = write(HEAD_FIELDS, |at| head_amount(head, section, at), fields);
-    if read < HEAD_FIELDS {
-        return read;
-    }
+    write(HEAD_FIELDS, |at| head_amount(head, section, at), fields)?;
     let first_age = HEAD_FIELDS + PER_SEGMENT * segments;
-    let read = HEAD_FIELDS
-        + read_segments(&list[HEAD_FIELDS..first_age], &mut fields[HEAD_FIELDS..]);
-    if read < first_age {
-        return read;
-    }
+    let part = &list[HEAD_FIELDS..first_age];
+    read_segments(part, &mut fields[HEAD_FIELDS..]).map_err(|read| HEAD_FIELDS + read)?;
     let ages = &list[first_age..];
-    first_age
-        + write(
-            ages.len(),
-            |at| age_amount(ages, at),
-            &mut fields[first_age..],
-        )
+    write(
+        ages.len(),
+        |at| age_amount(ages, at),
+        &mut fields[first_age..],
+    )
+    .map_err(|read| first_age + read)
 }
 
 // The count in a field of a list: a whole number in its range.
@@ -253,10 +247,7 @@ impl Reader for Lists {
 
     fn read(list: &[f64], numbers: &mut [u64; MOST_FIELDS]) -> Result<Counts, Refusal> {
         let counts = counts(list)?;
-        let read = read_fields(list, counts.segments, numbers);
-        if read < list.len() {
-            return Err(Refusal::Doubles(read as u64 + 1));
-        }
+        read_fields(list, counts.segments, numbers).map_err(|at| Refusal::Doubles(at as u64 + 1))?;
         Ok(counts)
     }
 

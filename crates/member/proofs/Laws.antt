@@ -7,19 +7,17 @@ use Prim.Native.Nat.{ℕ, ◌+◌, ◌*◌, ◌≤◌}
 use native.Mathlib.Omega.{arith}
 use borrow.Author.Tests.{leb-true, ltb-true, eqb-true, eqb-false}
 use lib.Dec.{leb, ltb, eqb}
-use lib.ListN.{length, drop}
+use lib.ListN.{length}
 use Rattle.std.specs.Prelude.{Ok}
 use Rattle.logarithm.specs.Logarithm.{service_life}
 use Rattle.fields.specs.declared.segments.Segment.{Segment}
 use Rattle.fields.specs.declared.segments.Age.{Age}
-use Rattle.fields.specs.declared.read.Counts.{Counts}
 use Rattle.fields.specs.Outcomes.{onward}
-use Rattle.fields.proofs.Laws.{segments_length, ages_length}
-use Rattle.fields.specs.Quantities.{head_fields, quantities_with, segments_of, per_segment, per_age, first_segment_field, first_age_field, bend, Quantities}
+use Rattle.fields.specs.Quantities.{per_segment, per_age, first_segment_field, first_age_field, bend, Quantities}
 use Rattle.fields.specs.Quantities.{is_pretensioned, is_moist, straight, parabola}
 use Rattle.fields.specs.Limits.{Range, range, most_of_strength, hundredths, most_length, most_moment, least_straight, least_parabola}
 use Rattle.fields.specs.Limits.{most_rise, most_angle, least_moist_transfer, most_friction, report_room, scratch_room, most_kappa}
-use Rattle.fields.specs.Limits.{most_creep_of_kappa, most_segments}
+use Rattle.fields.specs.Limits.{most_creep_of_kappa}
 use Rattle.fields.specs.declared.refusal.Refusal.TheVariants.{Codes, Ranges, Hours, Duct, Buffers, Section, Creep}
 use Rattle.checks.specs.Places.{ranges_of_line1, ranges_of_line2, ranges_of_line3, ranges_of_line4}
 use Rattle.checks.specs.Rows.{CheckRow, checked, checked_by, within, head_codes, segment_codes, codes, ranges_of_segments}
@@ -30,8 +28,7 @@ use Rattle.member.specs.declared.Member.{Member}
 use Rattle.member.specs.Member.{friction_of, kappa_of, creep_of, member_of, codes_to_hours, duct_row, codes_to_duct, buffers_to_creep}
 use Rattle.member.specs.Member.{checked_of}
 use Rattle.member.specs.Checking.{BelowHours}
-use Rattle.fields.specs.Readable.{Readable}
-use Rattle.member.specs.Facts.{PathFits, SegmentFits, SegmentsFit, no_segment, segment_fits, HeadFits, RisingFrom, no_age, rises}
+use Rattle.member.specs.Facts.{SegmentFits, SegmentsFit, no_segment, segment_fits, HeadFits, RisingFrom, no_age, rises}
 use Rattle.member.specs.Facts.{MomentsWithin, no_moment, adds, Facts}
 
 -- ---- segments and ages, along their lists
@@ -331,21 +328,6 @@ pub to_creep : (q : Quantities) (report scratch : ℕ)
     ≡ onward (checked_by (codes_to_duct q) (friction_of q)) (λ friction. checked_by (buffers_to_creep q report scratch) (member_of q))
 to_creep q report scratch =
     by_rows q report scratch ∙ in_parts (codes_to_duct q) (buffers_to_creep q report scratch) (friction_of q) (member_of q)
-
--- ---- the segments and the ages of lent fields, by their counts
-
-pub path_counted : (counts : Counts) (numbers : List ℕ) → length (quantities_with counts numbers).path ≡ counts.segments
-path_counted counts numbers = segments_length counts.segments (drop head_fields numbers)
-
-pub ages_counted : (counts : Counts) (numbers : List ℕ) → length (quantities_with counts numbers).ages ≡ counts.ages
-ages_counted counts numbers = ages_length counts.ages (drop (head_fields + per_segment * counts.segments) numbers)
-
--- the fields of a path, all of them, whose segments fit
-pub path_fits : (counts : Counts) (numbers : List ℕ) {q : Quantities} {path : List ℕ} → quantities_with counts numbers ≡ q
-    → Readable counts numbers → length path ≡ per_segment * length q.path → segments_of path ≡ q.path → SegmentsFit q.path → PathFits path
-path_fits counts numbers {q} is readable whole same fit =
-    let few : length q.path ≤ most_segments = rw (← is, path_counted counts numbers) readable.segments_most in
-    record { few = omega arith; segments_fit = rw same fit }
 
 -- ---- an accepted member
 

@@ -3,7 +3,7 @@ use Rattle.std.specs.Prelude.{ℕ, ◌+◌, ◌*◌, ◌≤◌, ◌<◌, ◌^◌
 use Rattle.logarithm.specs.Logarithm.{service_life}
 use Rattle.fields.specs.declared.segments.Segment.{Segment}
 use Rattle.fields.specs.declared.segments.Age.{Age}
-use Rattle.fields.specs.Quantities.{per_segment, bend, Quantities, segments_of, is_pretensioned, is_moist, straight}
+use Rattle.fields.specs.Quantities.{bend, Quantities, is_pretensioned, is_moist, straight}
 use Rattle.fields.specs.Quantities.{parabola}
 use Rattle.fields.specs.Limits.{range, most_of_strength, hundredths, most_length, most_moment, least_straight, least_parabola, most_rise}
 use Rattle.fields.specs.Limits.{most_angle, least_moist_transfer, most_segments, most_friction, report_room, scratch_room, most_kappa}
@@ -46,14 +46,14 @@ most_part = 10 ^ 9
 abbrev pub most_segment_friction : ℕ
 most_segment_friction = 2 * most_part
 
--- what a path's length is computed from: the fields of segments
-pub record PathFits (list : List ℕ) : Type 0 where
-  pub few : length list ≤ per_segment * most_segments
-  pub segments_fit : SegmentsFit (segments_of list)
+-- what a path's length is computed from
+pub record PathFits (path : List Segment) : Type 0 where
+  pub few : length path ≤ most_segments
+  pub segments_fit : SegmentsFit path
 
 -- what X is computed from
-pub record PathFrictionFits (wobble curvature : ℕ) (list : List ℕ) : Type 0 where
-  pub path : PathFits list
+pub record PathFrictionFits (wobble curvature : ℕ) (path : List Segment) : Type 0 where
+  pub path_fits : PathFits path
   pub wobble_most : wobble ≤ range.wobble.high
   pub curvature_most : curvature ≤ range.curvature.high
 

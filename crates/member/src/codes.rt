@@ -1,5 +1,5 @@
 // What the codes stand for, once they are listed. A TryFrom would be no plainer: no code comes here that row "codes" refuses, so that its
-// error could not be met, and its caller would have to prove so.
+// error could not be met, and its caller would have to prove so. Nor would a trait over the four: each would still say its two names.
 ghost use Rattle.std.specs.Prelude.{◌≡◌};
 ghost use Rattle.member.specs.Member.{kind_of, steel_of, cure_of, concrete_of};
 

@@ -1,19 +1,24 @@
 // From numbered fields to an accepted member, or its refusal: codes, ranges, hours, duct, buffers, section and creep.
 #![tactic(auto)]
 
-ghost use Rattle.std.specs.Prelude.{◌≡◌, [], ◌∷◌};
+ghost use Rattle.std.specs.Prelude.{◌≡◌, ◌≤◌, [], ◌∷◌};
+ghost use Rattle.fields.specs.Quantities.{quantities_of};
+ghost use Rattle.fields.specs.Limits.{most_segments};
 ghost use Rattle.checks.specs.Rows.{checked_by};
 ghost use Rattle.member.specs.Member.{friction_of, member_of, codes_to_hours, duct_row, codes_to_duct, buffers_to_creep, checked_of};
 ghost use Rattle.member.specs.Checking.{BelowHours};
 
 pub mod codes;
 pub mod path;
-mod ranged;
+pub mod ranged;
 pub mod section;
 
+use checks::buffers::Room;
 use coefficient::clocks::MemberHours;
 use coefficient::codes::Steel;
-use fields::limits::{MOST_CREEP_OF_KAPPA, MOST_KAPPA};
+use fields::layout::HEAD_FIELDS;
+use fields::limits::{MOST_CREEP_OF_KAPPA, MOST_FIELDS, MOST_KAPPA};
+use fields::parts::Parts;
 use fields::places;
 use fields::read::Fields;
 use fields::refusal::Refusal;
@@ -52,18 +57,28 @@ pub fn check_to_hours(fields: &Fields) -> Result<(), Refusal>
     checks::hours::check(fields).map_err(Refusal::Hours)
 }
 
-// Row "duct", where those above hold: X, or its refusal.
-pub fn check_duct(fields: &Fields) -> Result<u64, Refusal>
-    requires { BelowHours fields.now }
-    ensures { result ≡ checked_by (duct_row fields.now ∷ []) (friction_of fields.now) }
+// Row "duct", where those above hold: X, or its refusal. Of the numbers only the segments are counted.
+#[tactic(auto, using(checks::proofs::Cascade::rows_made, fields::proofs::Along::parts_length))]
+pub fn duct_of_numbers(numbers: &[u64; MOST_FIELDS], segments: usize) -> Result<u64, Refusal>
+    requires counted { segments ≤ most_segments }
+    requires above { BelowHours (quantities_of segments 0 numbers.now) }
+    ensures { result ≡ checked_by (duct_row (quantities_of segments 0 numbers.now) ∷ [])
+        (friction_of (quantities_of segments 0 numbers.now)) }
 {
-    let wobble = fields.numbers[places::WOBBLE];
-    let curvature = fields.numbers[places::CURVATURE];
-    let friction = path::path_friction(fields.path(), wobble, curvature);
-    checks::duct::check(fields.is_pretensioned(), fields.counts.segments, friction).map_err(
-        Refusal::Duct,
-    )?;
+    let path = Parts::of(numbers, HEAD_FIELDS, segments);
+    let friction = path::path_friction(path, numbers[places::WOBBLE], numbers[places::CURVATURE]);
+    // A code is a number still: of these numbers, no `Fields` need be made.
+    let pretensioned = numbers[places::KIND] == places::PRETENSIONED;
+    checks::duct::check(pretensioned, segments, friction).map_err(Refusal::Duct)?;
     Ok(friction)
+}
+
+// The same of fields.
+pub fn check_duct(ranged: &Ranged) -> Result<u64, Refusal>
+    ensures { result ≡ checked_by (duct_row ranged.now ∷ []) (friction_of ranged.now) }
+{
+    let fields = ranged.fields;
+    duct_of_numbers(fields.numbers, fields.counts.segments)
 }
 
 // From row "codes" to row "duct": X, or the first refusal.
@@ -72,22 +87,17 @@ fn check_to_duct(fields: &Fields) -> Result<u64, Refusal>
     ensures { result ≡ checked_by (codes_to_duct fields.now) (friction_of fields.now) }
 {
     check_to_hours(fields)?;
-    check_duct(fields)
+    check_duct(&Ranged { fields })
 }
 
 // Rows "buffers", "section" and "creep", where those above hold.
-#[tactic(auto, using(checks::proofs::Cascade::rows_made, crate::proofs::Laws::ages_counted))]
-fn check_below_duct(
-    ranged: &Ranged,
-    friction: u64,
-    report: usize,
-    scratch: usize,
-) -> Result<Member, Refusal>
+#[tactic(auto, using(checks::proofs::Cascade::rows_made, fields::proofs::Counting::ages_counted))]
+fn check_below_duct(ranged: &Ranged, friction: u64, room: Room) -> Result<Member, Refusal>
     requires { friction ≡ friction_of ranged.now }
-    ensures { result ≡ checked_by (buffers_to_creep ranged.now report scratch) (member_of ranged.now) }
+    ensures { result ≡ checked_by (buffers_to_creep ranged.now room.report room.scratch) (member_of ranged.now) }
 {
     let fields = ranged.fields;
-    checks::buffers::check(fields.counts.ages, report, scratch).map_err(Refusal::Buffers)?;
+    checks::buffers::check(fields.counts.ages, room).map_err(Refusal::Buffers)?;
     let kappa = ranged.kappa();
     if MOST_KAPPA < kappa {
         return Err(Refusal::Section);
@@ -99,12 +109,11 @@ fn check_below_duct(
     Ok(ranged.member(friction, kappa, creep))
 }
 
-// From row "codes" to row "creep": the accepted member, or the first refusal. `report` and `scratch` are the lengths of the lent
-// buffers.
-#[tactic(auto, using(crate::proofs::Laws::to_creep))]
-pub fn check_member(fields: &Fields, report: usize, scratch: usize) -> Result<Member, Refusal>
-    ensures { result ≡ checked_of fields.now report scratch }
+// From row "codes" to row "creep": the accepted member, or the first refusal.
+#[tactic(auto, using(crate::proofs::Laws::to_creep, crate::proofs::Laws::friction_given))]
+pub fn check_member(fields: &Fields, room: Room) -> Result<Member, Refusal>
+    ensures { result ≡ checked_of fields.now room.report room.scratch }
 {
     let friction = check_to_duct(fields)?;
-    check_below_duct(&Ranged { fields }, friction, report, scratch)
+    check_below_duct(&Ranged { fields }, friction, room)
 }

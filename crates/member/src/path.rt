@@ -1,13 +1,13 @@
 // X, the friction of a path, and its length.
 ghost use Rattle.std.specs.Prelude.{◌≡◌};
-ghost use Rattle.fields.specs.Quantities.{segments_of};
+ghost use Rattle.fields.specs.Along.{segments_of};
 ghost use Rattle.fields.specs.Limits.{range};
 ghost use Rattle.member.specs.Constants.{wobble_part, curvature_part, segment_friction, path_friction};
 ghost use Rattle.member.specs.Constants.{path_length};
 ghost use Rattle.member.specs.Facts.{PartFits, SegmentFrictionFits, PathFits, PathFrictionFits, most_part};
 ghost use Rattle.member.specs.Facts.{most_segment_friction, AtMost};
 
-use fields::layout::PER_SEGMENT;
+use fields::parts::Parts;
 use fields::places;
 use fields::segments::Segment;
 use ticks::{T, TICKS_PER_UNIT};
@@ -21,6 +21,7 @@ fn wobble_part(wobble: u64, segment: Segment) -> u64
     wobble * segment.length * T / (TICKS_PER_UNIT * MILLION)
 }
 
+// A code is a number still: the segment is as its fields stand.
 fn curvature_part(curvature: u64, segment: Segment) -> u64
     requires { PartFits range.curvature.high curvature segment }
     ensures { AtMost most_part (curvature_part curvature segment) result }
@@ -40,28 +41,28 @@ pub fn segment_friction(wobble: u64, curvature: u64, segment: Segment) -> u64
     wobble_part(wobble, segment) + curvature_part(curvature, segment)
 }
 
-// X of the segments whose fields `path` has.
-#[tactic(auto, using(crate::proofs::Along::friction_along))]
-pub fn path_friction(path: &[u64], wobble: u64, curvature: u64) -> u64
-    requires { PathFrictionFits wobble curvature path.now }
-    ensures { result ≡ path_friction wobble curvature (segments_of path.now) }
+// X of a path.
+#[tactic(auto, using(crate::proofs::Along::friction_along), unfolding(crate::specs::Constants::path_friction))]
+pub fn path_friction(path: Parts<Segment>, wobble: u64, curvature: u64) -> u64
+    requires { PathFrictionFits wobble curvature (segments_of path.fields.now) }
+    ensures { result ≡ path_friction wobble curvature (segments_of path.entry.fields.now) }
 {
     let mut friction = 0u64;
-    for part in path.chunks_exact(PER_SEGMENT) {
-        friction += segment_friction(wobble, curvature, Segment::at(part));
+    for (_, segment) in path {
+        friction += segment_friction(wobble, curvature, segment);
     }
     friction
 }
 
-// The length of the segments whose fields `path` has.
-#[tactic(auto, using(crate::proofs::Along::length_along))]
-pub fn path_length(path: &[u64]) -> u64
-    requires { PathFits path.now }
-    ensures { result ≡ path_length (segments_of path.now) }
+// The length of a path.
+#[tactic(auto, using(crate::proofs::Along::length_along), unfolding(crate::specs::Constants::path_length))]
+pub fn path_length(path: Parts<Segment>) -> u64
+    requires { PathFits (segments_of path.fields.now) }
+    ensures { result ≡ path_length (segments_of path.entry.fields.now) }
 {
     let mut length = 0u64;
-    for part in path.chunks_exact(PER_SEGMENT) {
-        length += Segment::at(part).length;
+    for (_, segment) in path {
+        length += segment.length;
     }
     length
 }

@@ -12,8 +12,8 @@ use fields::read::Fields;
 use std::marker::Model;
 
 #[derive(Drop)]
-pub(crate) struct Ranged<'a> {
-    pub(crate) fields: &'a Fields<'a>,
+pub struct Ranged<'a> {
+    pub fields: &'a Fields<'a>,
 }
 
 impl<'a> Model for Ranged<'a> {
@@ -71,7 +71,7 @@ impl<'a> Ranged<'a> {
     }
 
     // The member, of the three that the rows are asked of too.
-    #[tactic(auto, unfolding(crate::specs::Member::member_of))]
+    #[tactic(auto, using(fields::proofs::Counting::few_segments), unfolding(crate::specs::Member::member_of))]
     pub(crate) fn member(&self, friction: u64, kappa: u64, creep: u64) -> Member
         requires friction_is { friction ≡ friction_of self.now }
         requires kappa_is { kappa ≡ kappa_of self.now }

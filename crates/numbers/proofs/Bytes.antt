@@ -8,8 +8,8 @@ use native.Mathlib.Numerals.{add-one}
 use native.Mathlib.Nat.{le_of_suc-le-suc, not-suc-le-zero, div-div-eq-div-mul}
 use native.Mathlib.Omega.{arith}
 use lib.Ieee.{Float, nan}
-use lib.ListN.{length, get_or, take, drop, set, length-append, length-drop, length-map, length-set, drop_of_length-le}
-use lib.Seq.{take-suc, take_all, length-take-le, drop-cons, drop-drop, set_at, take-append_seam, drop-append_seam}
+use lib.ListN.{length, get_or, take, drop, set, length-append, length-drop, length-map, length-set}
+use lib.Seq.{take-suc, length-take-le, drop-cons, drop-drop, set_at, take-append_seam, drop-append_seam}
 use borrow.Rule.Slice.PartMut.{put_mid}
 use Rattle.std.specs.Int.{w64, to_le_bytes, from_le_bytes}
 use Rattle.std.specs.Simd.{first_chunks}
@@ -48,7 +48,8 @@ chunk_at (suc count) (suc read) list h =
     ∙ ap (take bytes_per_number) (drop-drop (bytes_per_number * read) bytes_per_number list ∙ ap (λ (n : ℕ). drop n list) on)
 
 pub number_at : (list : List ℕ) (read : ℕ) {chunks : List (List ℕ)}
-    → chunks ≡ first_chunks bytes_per_number (length list / bytes_per_number) list → bytes_per_number * read + bytes_per_number ≤ length list
+    → chunks ≡ first_chunks bytes_per_number (length list / bytes_per_number) list
+    → bytes_per_number * read + bytes_per_number ≤ length list
     → from_le_bytes w64 (get_or chunks read []) ≡ number_of (take bytes_per_number (drop (bytes_per_number * read) list))
 number_at list read is h =
     rw (is, chunk_at (length list / bytes_per_number) read list (omega arith))
@@ -104,7 +105,9 @@ module _ (numbers before buffer : List ℕ) (done : ℕ) (room : bytes_per_numbe
       let front_is : length front ≡ at =
       bytes_of_numbers_length (take done numbers)
       ∙ ap (λ (n : ℕ). bytes_per_number * n) (length-take-le done numbers (omega arith)) in
-      let eight : at + bytes_per_number - at ≡ length row = let long = bytes_length bytes_per_number (get_or numbers done 0) in omega arith in
+      let eight : at + bytes_per_number - at ≡ length row =
+      let long = bytes_length bytes_per_number (get_or numbers done 0) in
+      omega arith in
       let is : put_mid at (at + bytes_per_number - at) buffer part ≡ written (take (done + 1) numbers) before =
       rw (eight, e, stored.is, over_behind front row before at (sym front_is), ← bytes_behind (take done numbers) (get_or numbers done 0))
       (ap (λ (l : List ℕ). written l before) (sym (rw (add-one, take-suc numbers done 0)))) in
@@ -116,9 +119,6 @@ module _ (numbers before buffer : List ℕ) (done : ℕ) (room : bytes_per_numbe
         same = ap length is ∙ length_over (bytes_of_numbers (take (done + 1) numbers)) before (omega arith);
         is = is;
       }
-
-  pub stored_all : length numbers ≤ done → buffer ≡ written numbers before
-  stored_all h = stored.is ∙ ap (λ (l : List ℕ). written l before) (take_all done numbers h)
 
 -- ---- reading
 
@@ -166,12 +166,3 @@ module _ (list : List ℕ) (before doubles : List Float) (read : ℕ) (decoded :
             ∙ ap (λ (x : Float). front ++ (x ∷ drop (suc read) before)) (d ∙ ap stands_for n)
             ∙ sym (rw (add-one, numbers_behind read list, map-append, append_assoc));
       }
-
-  pub decoded_all : length before ≤ read → doubles ≡ map stands_for (numbers_from (length before) list)
-  decoded_all h =
-      let within = decoded.within in
-      let all : read ≡ length before = omega arith in
-      decoded.is
-      ∙ ap (λ (l : List Float). map stands_for (numbers_from read list) ++ l) (drop_of_length-le before {i = read} (omega arith))
-      ∙ append-nil _
-      ∙ ap (λ (n : ℕ). map stands_for (numbers_from n list)) all

@@ -14,7 +14,8 @@ use lib.Ieee.Bits.{nan_bits_is}
 use lib.Ieee.Fits.{inf-fits, nan-fits}
 use lib.ListN.{length, get_or, take, drop, length-map}
 use lib.Seq.{get_or-take, take_all, take_at, length-take-le}
-use Rattle.std.specs.Prelude.{Ok, Err}
+use Rattle.std.specs.Prelude.{Some, None, Ok, Err}
+use Rattle.std.specs.Option.{unwrap_or}
 use Rattle.ticks.proofs.Laws.{refused}
 use Rattle.fields.specs.declared.read.Counts.{Counts}
 use Rattle.fields.specs.declared.refusal.Refusal.TheVariants.{Shape}
@@ -23,7 +24,8 @@ use Rattle.fields.specs.Limits.{most_segments, ages_out_of_range}
 use Rattle.fields.specs.Sizes.{most_fields}
 use Rattle.fields.specs.Outcomes.{OrRefusal, onward}
 use Rattle.fields.proofs.Laws.{ages_in_range}
-use Rattle.list.specs.Lists.{whole_in, amount_in, in_ticks, amounts_of, field_in, count_in, shaped, counts_in, with_counts, list_outcome, amounts_by}
+use Rattle.list.specs.Lists.{whole_in, amount_in, in_ticks, amounts_of, field_in, count_in, shaped, counts_in, with_counts, list_outcome}
+use Rattle.list.specs.Lists.{amounts_by}
 use Rattle.list.specs.Counted.{counted}
 use Rattle.numbers.specs.Numbers.{bytes_per_number, room, numbers_from, doubles_of}
 use Rattle.numbers.specs.ReadDoubles.{stands_for, most_doubles}
@@ -44,7 +46,7 @@ same_amount : (ticks : Bool) (bits : ℕ) → amount_in ticks (stands_for bits) 
 same_amount ticks bits = by (nan_bits binary64 bits) refl
   where
     by : (b : Bool) → nan_bits binary64 bits ≡ b
-        → amount_in ticks (cond b (inf false) (of_bits binary64 bits)) ≡ amount_in ticks (of_bits binary64 bits)
+        → amount_in ticks (unwrap_or (cond b None (Some (of_bits binary64 bits))) (inf false)) ≡ amount_in ticks (of_bits binary64 bits)
     by true e = unreadable ticks ∙ ap (amount_in ticks) (sym (is_nan_then (of_bits binary64 bits) (sym (nan_bits_is binary64 bits) ∙ e)))
     by false e = refl
 
@@ -94,7 +96,8 @@ ages_in list = count_in ages_field ages_out_of_range list
 module _ (list : List Float) (long : most_fields < length list) where
   misshaped : (s n : ℕ) → segments_in list ≡ Ok s → ages_in list ≡ Ok n → shaped (length list) s n ≡ Err (Shape 0)
   misshaped s n segments ages =
-      let few = ltb-false most_segments s (counted segments_field (ltb most_segments) (whole_in (field_in segments_field list)) segments).1 in
+      let few =
+      ltb-false most_segments s (counted segments_field (ltb most_segments) (whole_in (field_in segments_field list)) segments).1 in
       let ranged = ages_in_range n (counted ages_field ages_out_of_range (whole_in (field_in ages_field list)) ages).1 in
       rw (ne_eqb (length list) (fields_in s n) (λ e. omega arith))
 

@@ -1,3 +1,3 @@
 mod Bytes
-mod Doubles
 mod FirstDoubles
+pub mod Doubles

@@ -6,7 +6,7 @@ ghost use Rattle.fields.specs.Outcomes.{over};
 ghost use Rattle.list.specs.Lists.{list_outcome};
 ghost use Rattle.numbers.specs.Numbers.{room, written, numbers_from, doubles_of, bytes_outcome};
 ghost use Rattle.numbers.specs.Laws.{bytes_accepted};
-ghost use Rattle.numbers.specs.ReadDoubles.{stands_for, most_doubles};
+ghost use Rattle.numbers.specs.ReadDoubles.{double_with, stands_for, most_doubles};
 ghost use Rattle.numbers.specs.Conditions.{NumbersFit};
 
 use fields::limits::MOST_FIELDS;
@@ -34,31 +34,33 @@ pub fn write_numbers(numbers: &[u64], buffer: &mut [u8])
     requires { NumbersFit (length buffer.old) (length numbers.now) }
     ensures { buffer.new ≡ written numbers.now buffer.old }
 {
+    // Cut by place: after a loop over `buffer.chunks_exact_mut(BYTES_PER_NUMBER)` a proof knows the buffer's length, and no byte of it.
     for (done, number) in numbers.iter().enumerate() {
         let at = BYTES_PER_NUMBER * done;
         buffer[at..at + BYTES_PER_NUMBER].copy_from_slice(&number.to_le_bytes());
     }
 }
 
-// The double with these bits. A NaN has no bits of its own in the model of floats, so that infinity stands for it: every reading
-// refuses both.
-fn double_of(bits: u64) -> f64
-    ensures { result ≡ stands_for bits }
+// The double with these bits; None for a NaN's, since a NaN has no bits of its own in the model of floats.
+#[tactic(auto, using(crate::proofs::Doubles::above, crate::proofs::Doubles::below))]
+pub fn double_of(bits: u64) -> Option<f64>
+    ensures { result ≡ double_with bits }
 {
     if INFINITY_BITS < bits % MINUS_ZERO {
-        return f64::INFINITY;
+        return None;
     }
-    f64::from_bits(bits)
+    Some(f64::from_bits(bits))
 }
 
-// The doubles that the first bytes of a list hold.
+// The doubles that the first bytes of a list hold. Infinity stands for a NaN: every reading refuses both.
 fn read_doubles(list: &[u8], doubles: &mut [f64])
     requires { NumbersFit (length list.now) (length doubles.old) }
     ensures { doubles.new ≡ map stands_for (numbers_from (length doubles.old) list.now) }
 {
     let (numbers, _) = list.as_chunks::<BYTES_PER_NUMBER>();
+    // By `enumerate`: of `doubles.iter_mut().zip(numbers)` a proof knows nothing of what was written.
     for (read, double) in doubles.iter_mut().enumerate() {
-        *double = double_of(u64::from_le_bytes(numbers[read]));
+        *double = double_of(u64::from_le_bytes(numbers[read])).unwrap_or(f64::INFINITY);
     }
 }
 

@@ -15,7 +15,7 @@ use Rattle.fields.specs.Outcomes.{numbers_in}
 use Rattle.line.specs.Lines.{digits_of, spaces_in}
 use Rattle.card.specs.Card.{card_outcome}
 use Rattle.list.specs.Lists.{amounts_by, counts_in, list_outcome}
-use Rattle.fields.specs.Quantities.{segments_from, ages_from, quantities_of}
+use Rattle.fields.specs.Quantities.{parts_from, quantities_of}
 use Rattle.exponential.specs.Factor.{factor}
 use Rattle.member.specs.Constants.{path_friction, path_length}
 use Rattle.formulas.specs.Steps.{drop_at_jack}
@@ -31,7 +31,7 @@ use Rattle.readings.specs.Readings.{double0153, half_apart}
 -- what opens every definition that a reading is computed by, but the drop at the jack
 unfoldable computed : Unit {0}
 unfolding first_columns ages_text elongations_text text_of lines_of fields_of hourly card_outcome digits_of spaces_in round to_bits list_outcome counts_in amounts_by
-    whole_of ticks_of magnitude numbers_in segments_from ages_from checked_of checked codes ranges hours segment_codes ranges_of_segments ranges_of_moments
+    whole_of ticks_of magnitude numbers_in parts_from checked_of checked codes ranges hours segment_codes ranges_of_segments ranges_of_moments
     hours_of_ages member_result logarithm scf ssf mcf ucr ush creep_share shrinkage_share path_friction path_length factor sheet_result elongations_from sum_of
 computed = tt
 

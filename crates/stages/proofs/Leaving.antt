@@ -31,13 +31,13 @@ module _ (a b value : ℕ) (otherwise : Refusal) where
     where
       by : (test : Bool) → leb a b ≡ test → tested test ≡ Ok given → (a ≤ b) × (given ≡ value)
       by true h e = (leb-true a b h, cc)
-      by false h e = let never : ◌≡◌ {A = ℕ} 0 1 = cc in absurd (omega arith)
+      by false h e = cc
 
   failed : {refusal : Refusal} → tested (leb a b) ≡ Err refusal → otherwise ≡ refusal
   failed {refusal} = by (leb a b)
     where
       by : (test : Bool) → tested test ≡ Err refusal → otherwise ≡ refusal
-      by true e = let never : ◌≡◌ {A = ℕ} 0 1 = cc in absurd (omega arith)
+      by true e = cc
       by false e = cc
 
 -- ---- a loss

@@ -25,7 +25,8 @@ pub record LossesFit (losses : Losses) : Type 0 where
   pub shrinkage_fits : losses.shrinkage ≤ 2 ^ 59
   pub relaxation_fits : losses.relaxation ≤ 2 ^ 59
 
-module _ {m : Member} {stress : ℕ} {end : End} (start : End) (bounded : Bounded m) (ends : EndBounded end) (fits : stress < stress_limit) where
+module _ {m : Member} {stress : ℕ} {end : End} (start : End) (bounded : Bounded m) (ends : EndBounded end)
+    (fits : stress < stress_limit) where
   -- each loss has what it asks
   concrete : ConcreteFits stress m.kappa
   concrete = record { stress_fits = fits; kappa_fits = omega arith }

@@ -3,7 +3,6 @@
 use mathlib.Core.Path.{◌≡◌, refl}
 use mathlib.Core.Bool.{Bool, true, false}
 use Prim.Native.Nat.{ℕ}
-use native.Mathlib.Omega.{arith}
 use Rattle.std.specs.Prelude.{Ok, Err}
 use Rattle.fields.specs.declared.refusal.Refusal.TheVariants.{AnchorSet}
 use Rattle.formulas.specs.Steps.{dies_out, drop_at_jack, passes_tendon, drop_at_section, slip_loss}
@@ -43,5 +42,5 @@ module _ (m : Member) where
     given_at_the_section so = by passes refl
       where
         by : (far : Bool) → passes ≡ far → (passes ≡ false) × (slip ≡ drop_at_section z d)
-        by true far = let refused = beyond_the_tendon so far in let never : ◌≡◌ {A = ℕ} 0 1 = cc in absurd (omega arith)
+        by true far = let refused = beyond_the_tendon so far in cc
         by false near = let is = at_the_section so near in (near, cc)

@@ -1,5 +1,5 @@
-// The stress that a loss leaves, and the stress after a gain. A stress is a number whose bound contracts ask for: `BeforeAges` and `Row`,
-// which the definitions make of any stress, could hold no type that keeps it.
+// The stress that a loss leaves, and the stress after a gain. A stress is a number whose bound contracts ask for. A type that keeps the
+// bound would be no plainer: `BeforeAges` and `Row`, which the definitions make of any stress, could not hold it.
 ghost use Rattle.std.specs.Prelude.{◌≡◌};
 ghost use Rattle.stages.specs.Run.{after as afterLoss, lifted as liftedBy};
 ghost use Rattle.stages.specs.Conditions.{LiftFits};

@@ -57,22 +57,6 @@ run_finite (Ok run) {reply} a = finite reply.last run.last a.double_is
 run_finite (Err refusal) a = absurd (omega (arith, a.number_is, refusal_number refusal))
 
 module _ (result : OrRefusal Report) {returned : ℕ} {report report_was given reply_was : List ℕ} where
-  pub refusal_hosted : {refusal : Refusal} → Reported result (Err refusal) report report_was
-      → Replied (number refusal) (refusal_values refusal) returned given reply_was
-      → Hosted result returned report report_was given reply_was
-  refusal_hosted {refusal} reported replied = by result reported.answered reported.report_is
-    where
-      by : (result : OrRefusal Report) → Answered result (Err refusal) → report ≡ written (numbers_written result) report_was
-          → Hosted result returned report report_was given reply_was
-      by (Ok run) a e = absurd (omega (arith, a.number_is, refusal_number refusal))
-      by (Err early) a e =
-          record {
-            number_is = replied.returned_is ∙ a.number_is;
-            values_are = rw a.values_are at replied.reply_is;
-            double_is = tt;
-            report_is = e;
-          }
-
   pub acceptance_hosted : {reply : Reply} → Reported result (Ok reply) report report_was
       → Replied acceptance_number (acceptance_values reply.before reply.last) returned given reply_was
       → of_bits binary64 (to_bits binary64 reply.last) ≡ reply.last → Hosted result returned report report_was given reply_was

@@ -3,7 +3,7 @@
 use mathlib.Core.Path.{◌≡◌, refl, sym, ap, ◌∙◌}
 use mathlib.Core.Bool.{Bool, true, false}
 use mathlib.Core.List.{List, [], ◌∷◌, ◌++◌, append_assoc}
-use Prim.Native.Nat.{ℕ, ◌+◌, ◌*◌, min, ◌≤◌}
+use Prim.Native.Nat.{ℕ, ◌*◌, min, ◌≤◌}
 use native.Mathlib.Nat.{le-min, min-le_left, min-le_right}
 use native.Mathlib.Omega.{arith}
 use borrow.Author.Tests.{le-leb, lt-leb, leb-true, leb-false}
@@ -13,24 +13,18 @@ use lib.Seq.{take_at}
 use Rattle.std.specs.Prelude.{Ok, Err}
 use Rattle.fields.specs.declared.read.Counts.{Counts}
 use Rattle.fields.specs.Outcomes.{OrRefusal, over}
-use Rattle.fields.specs.Quantities.{head_fields, per_segment, Quantities, quantities_with}
+use Rattle.fields.specs.Quantities.{Quantities, quantities_with}
 use Rattle.fields.specs.Limits.{per_row, report_room, scratch_room}
 use Rattle.fields.specs.Readable.{Readable}
-use Rattle.fields.proofs.Laws.{ages_length}
+use Rattle.fields.proofs.Counting.{age_count}
 use Rattle.fields.proofs.Onward.{through}
 use Rattle.checks.specs.Rows.{checked, checked_by}
 use Rattle.member.specs.Member.{checked_of}
 use Rattle.member.proofs.Laws.{accepted}
-use Rattle.stages.specs.declared.intervals.Row.{Row}
 use Rattle.stages.specs.Run.{Report, member_result, result_of}
 use Rattle.entries.specs.Answers.{Answer, numbers_of_rows, numbers_written, Ran}
-use Rattle.entries.proofs.Closeness.{close}
+use Rattle.entries.proofs.Closeness.{row_count, rows_length}
 use Rattle.stratelyn.specs.Conditions.{Front, Rowed}
-
-rows_length : (rows : List Row) → length (numbers_of_rows rows) ≡ per_row * length rows
-unfolding numbers_of_rows
-rows_length [] = refl
-rows_length (row ∷ rows) = omega (arith, rows_length rows)
 
 -- as many numbers as there is room for, up to some, are part of as many or more
 pub room_within : {count : ℕ} (room most : ℕ) {whole : ℕ} → count ≡ min room most → most ≤ whole → count ≤ whole
@@ -47,19 +41,10 @@ enough count room = by (leb count room) refl
         let least = min-le_left room count in
         lt-leb count (min room count) (omega arith)
 
--- how many ages the fields of a card or a list have
-pub age_count : (counts : Counts) (numbers : List ℕ) {q : Quantities} → quantities_with counts numbers ≡ q → length q.ages ≡ counts.ages
-age_count counts numbers is =
-    rw (← is) (ages_length counts.ages (drop (head_fields + per_segment * counts.segments) numbers))
-
 module _ (counts : Counts) (numbers : List ℕ) (readable : Readable counts numbers) {q : Quantities} (is : quantities_with counts numbers ≡ q)
     (report scratch : ℕ) where
   count : length q.ages ≡ counts.ages
   count = age_count counts numbers is
-
-  row_count : (given : Report) → result_of q report scratch ≡ Ok given → length given.rows ≡ length q.ages
-  row_count given =
-      rw (← is) (λ gives. (close counts numbers readable.segments_most readable.ages_most report scratch given gives).linked.rows_count)
 
   -- an accepted run has the numbers of its ages, and the report has room for them
   rows_fit : (given : Report) → result_of q report scratch ≡ Ok given
@@ -67,7 +52,7 @@ module _ (counts : Counts) (numbers : List ℕ) (readable : Readable counts numb
   rows_fit given e =
       let run = through (checked_of q report scratch) (λ m. member_result m q.ages) e in
       let room = (accepted q report scratch run.given_is).facts.report_room_fits in
-      (omega (arith, rows_length given.rows, row_count given e, count), omega (arith, room, count))
+      (omega (arith, rows_length given.rows, row_count counts numbers is readable report scratch given e, count), omega (arith, room, count))
 
   same_room : checked_of q (min report (per_row * counts.ages)) (min scratch (per_row * counts.ages)) ≡ checked_of q report scratch
   unfolding checked_of checked_by checked

@@ -16,8 +16,7 @@ module _ {days : List Row} (d : DayRows days) (x : ℕ) where
   -- between the rows at two neighbouring places
   pub line_read : (place next : ℕ) → next ≡ suc place → next < day_row_count → at (row_at days place) ≤ x → x < at (row_at days next)
       → on_line T x (row_at days place) (row_at days next) ≡ reading T days x
-  line_read place next e there from to =
-      rw e (sym (on_its_line T x days place d.in_order (omega (arith, d.count)) from (rw e at to)))
+  line_read place next e there from to = on_its_line T x days place next d.in_order e (omega (arith, d.count)) from to
 
   module _ (life : ℕ) where
     -- before one of the rows at days the end of life does not matter
@@ -40,3 +39,5 @@ module _ {days : List Row} (d : DayRows days) (x : ℕ) where
       pub one_read : life ≤ x → at_row T (row life 100) ≡ reading T (to_one days life) x
       unfolding along
       one_read past = sym (goes_to_one ∙ rw (le-ltb x life past))
+
+pub ruleset share_read = (days_read, end_read, one_read)

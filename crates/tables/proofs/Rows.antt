@@ -13,17 +13,13 @@ use lib.Dec.{T, leb, ltb, eqb, leb→le, eqb→eq, lit<}
 use lib.ListN.{length}
 use lib.Ieee.Fits.{and_l, and_r}
 use borrow.Author.Tests.{ltb-true, ltb-false, le-ltb}
+use Rattle.std.specs.List.{list_all}
 use Rattle.std.proofs.lemmas.Bool.{cond_both}
 use Rattle.tables.specs.declared.Row.{Row}
 use Rattle.tables.specs.Tables.{hundred, row, at, hundredths, at_row, weighed, on_line, along, reading}
 use Rattle.tables.specs.Conditions.{row_at, joined_from}
 use Rattle.tables.specs.Exact.{left_along, left_over, Exact}
 use Rattle.tables.proofs.Weights.{weighed_most, weighed_least, weighed_rises}
-
--- the test passes at each row
-abbrev pub every : (Row → Bool) → List Row → Bool
-every test [] = true
-every test (r ∷ rows) = test r && every test rows
 
 -- the test passes at each two neighbouring rows
 abbrev pub joined : (Row → Row → Bool) → List Row → Bool
@@ -109,7 +105,7 @@ between least most r = leb least (hundredths r) && leb (hundredths r) most
 -- there are rows, and each lies between the two
 abbrev pub bounded : ℕ → ℕ → List Row → Bool
 bounded least most [] = false
-bounded least most (first ∷ rows) = every (between least most) (first ∷ rows)
+bounded least most (first ∷ rows) = list_all (between least most) (first ∷ rows)
 
 module _ (unit least most x : ℕ) where
   abbrev Within : ℕ → Type 0
@@ -124,14 +120,14 @@ module _ (unit least most x : ℕ) where
   at_row_within : (r : Row) → T (between least most r) → Within (at_row unit r)
   at_row_within r t = (at_row_rises unit (above r t), at_row_rises unit (below r t))
 
-  along_within : (low : Row) (rows : List Row) → T (every (between least most) (low ∷ rows)) → at low ≤ x
+  along_within : (low : Row) (rows : List Row) → T (list_all (between least most) (low ∷ rows)) → at low ≤ x
       → Within (along unit x low rows)
   unfolding along
   along_within low [] t from = at_row_within low (and_l (between least most low) true t)
   along_within low (high ∷ rows) t from =
-      let l = and_l (between least most low) (every (between least most) (high ∷ rows)) t in
-      let others = and_r (between least most low) (every (between least most) (high ∷ rows)) t in
-      let h = and_l (between least most high) (every (between least most) rows) others in
+      let l = and_l (between least most low) (list_all (between least most) (high ∷ rows)) t in
+      let others = and_r (between least most low) (list_all (between least most) (high ∷ rows)) t in
+      let h = and_l (between least most high) (list_all (between least most) rows) others in
       placed Within x (at high) (on_line unit x low high) (along unit x high rows)
       (λ to. (
         on_line_least unit x low high from to least (above low l) (above high h),
@@ -144,7 +140,7 @@ module _ (unit least most x : ℕ) where
   within [] t = absurd t
   within (first ∷ rows) t =
       placed Within x (at first) (at_row unit first) (along unit x first rows)
-      (λ _. at_row_within first (and_l (between least most first) (every (between least most) rows) t))
+      (λ _. at_row_within first (and_l (between least most first) (list_all (between least most) rows) t))
       (λ from. along_within first rows t from)
 
 -- Where the rows never fall, the readings never fall. Nothing is asked of the rows' places.

@@ -1,4 +1,4 @@
-// SCF, SSF and MCF, each read once for a member: along the rows from the first one on.
+// SCF, SSF and MCF. Each is read once for a member, so that the library's search over the rows serves.
 ghost use Rattle.std.specs.Prelude.{◌≡◌, ◌≤◌};
 ghost use Rattle.ticks.specs.Ticks.{T};
 ghost use Rattle.tables.specs.Tables.{reading, scf_rows, ssf_rows, mcf_rows, size_unit, mcf_unit};
@@ -45,20 +45,11 @@ fn factor(unit: u64, rows: &[Row], x: u32) -> u64
     requires { unit ≤ T }
     ensures { result ≡ reading unit rows.now x }
 {
-    let Some((first, rest)) = rows.split_first() else {
-        return 0;
-    };
-    if x < first.0 {
-        return at_row(unit, *first);
+    match rows.iter().position(|row| x < row.0) {
+        Some(0) => at_row(unit, rows[0]),
+        Some(high) => on_line(unit, x, rows[high - 1], rows[high]),
+        None => rows.last().map_or(0, |row| at_row(unit, *row)),
     }
-    let mut low = *first;
-    for high in rest {
-        if x < high.0 {
-            return on_line(unit, x, low, *high);
-        }
-        low = *high;
-    }
-    at_row(unit, low)
 }
 
 pub fn scf(volume_to_surface: u32) -> u64

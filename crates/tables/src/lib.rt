@@ -21,16 +21,16 @@ pub(crate) fn at_row(unit: u64, r: Row) -> u64
     requires { unit ≤ T }
     ensures { result ≡ at_row unit r }
 {
-    unit * (r.1 as u64) / HUNDRED
+    unit * u64::from(r.1) / HUNDRED
 }
 
 pub(crate) fn on_line(unit: u64, x: u32, low: Row, high: Row) -> u64
     requires { Between unit x low high }
     ensures { result ≡ on_line unit x low high }
 {
-    let here = x as u64;
-    let from = low.0 as u64;
-    let to = high.0 as u64;
-    let weighed = (low.1 as u64) * (to - here) + (high.1 as u64) * (here - from);
+    let here = u64::from(x);
+    let from = u64::from(low.0);
+    let to = u64::from(high.0);
+    let weighed = u64::from(low.1) * (to - here) + u64::from(high.1) * (here - from);
     unit * weighed / (HUNDRED * (to - from))
 }

@@ -82,6 +82,7 @@ fn within_six(days: &[Row; DAY_ROWS], place: usize, x: u32) -> u64
 
 // A share at x, by its rows at days. The clock reads `life` at the end of the service life.
 #[inline(always)]
+#[tactic(auto, using(crate::proofs::Readings::share_read))]
 fn share(days: &[Row; DAY_ROWS], life: u32, x: u32) -> u64
     requires { DayRows days.now }
     ensures { result ≡ reading T (to_one days.now life) x }

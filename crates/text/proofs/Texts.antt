@@ -2,7 +2,7 @@
 -- and an input's text is that of its first bytes. Assumes nothing.
 use mathlib.Core.Path.{◌≡◌, refl, sym, ap, ◌∙◌}
 use mathlib.Core.Bool.{Bool, true, false}
-use mathlib.Core.Logic.{◌⊎◌}
+use mathlib.Core.Logic.{◌⊎◌, inl, inr}
 use mathlib.Core.List.{List, [], ◌∷◌, ◌++◌, append_assoc, append-nil}
 use Prim.Native.Nat.{ℕ, suc, ◌+◌, ◌-◌, ◌*◌, ◌≤◌, ◌<◌}
 use native.Mathlib.Numerals.{add-one}
@@ -11,27 +11,23 @@ use lib.Dec.{ltb}
 use lib.ListN.{length, get_or, take, drop, length-append, length-take, length-drop}
 use borrow.Author.Tests.{ltb-true, ltb-false}
 use borrow.Rule.Slice.PartMut.{mid_of, put_mid}
-use Rattle.std.proofs.lemmas.List.{get_or_append_left, drop_at, take_at, take_all, length-take-le, take-append-drop}
+use Rattle.std.proofs.lemmas.List.{nil_from_length, get_or_append_left, drop_at, take_at, take_all, length-take-le, take-append-drop}
 use Rattle.std.specs.Prelude.{Ok, Err}
 use Rattle.fields.specs.Outcomes.{over, OrRefusal}
-use Rattle.fields.specs.declared.read.Counts.{Counts}
 use Rattle.fields.specs.declared.segments.Age.{Age}
-use Rattle.fields.specs.Quantities.{head_fields, per_segment, per_age, Quantities, quantities_with, age_at, ages_of}
-use Rattle.fields.specs.Readable.{Readable}
+use Rattle.fields.specs.Quantities.{Quantities}
 use Rattle.fields.specs.Limits.{per_row, most_ages}
 use Rattle.fields.specs.Sizes.{most_report, most_scratch}
 use Rattle.fields.proofs.Buffers.{length_over, written_behind}
-use Rattle.fields.proofs.Laws.{ages_length}
 use Rattle.fields.proofs.Refusals.{refusal_number}
 use Rattle.stages.specs.declared.before.BeforeAges.{BeforeAges}
 use Rattle.stages.specs.declared.intervals.Row.{Row}
 use Rattle.stages.specs.Run.{Report, result_of}
-use Rattle.checks.proofs.Items.{next_age, no_age}
 use Rattle.card.specs.Conditions.{most_bytes}
 use Rattle.card.proofs.Behind.{behind}
 use Rattle.entries.specs.declared.Reply.{Reply}
 use Rattle.entries.specs.Answers.{numbers_before, numbers_of_rows, numbers_written, Answered}
-use Rattle.entries.proofs.Closeness.{close}
+use Rattle.entries.proofs.Closeness.{rows_length}
 use Rattle.text.specs.declared.Program.{Program}
 use Rattle.text.specs.Columns.{line_of, Holds}
 use Rattle.text.specs.Conditions.{most_line_bytes, RoomForText, AgesFit, lines_of_ages}
@@ -70,96 +66,78 @@ next_text passed age ages row later whole =
       drop_at row later per_row whole,
     )
 
--- a part that holds the lines of the ages that are passed, so many, and what is left of the ages' fields and of the rows, to be cut into
--- parts of these sizes
-pub record Lined (ages : List Age) (report old part : List ℕ) (at : ℕ) (fields rows : List ℕ) (field_size row_size passed : ℕ) : Type 0 where
+-- a part that holds the lines of the ages that are passed, so many; the ages that are left; and the rows that are left, to be cut into
+-- parts of this size
+pub record Lined (ages : List Age) (report old part : List ℕ) (at : ℕ) (left : List Age) (rows : List ℕ) (row_size passed : ℕ)
+    : Type 0 where
   pub done : List ℕ
   pub holds : Holds done at part old
   pub at_is : at ≡ most_line_bytes * passed
-  pub text : done ++ lines_of_ages passed (ages_of fields) rows ≡ lines_of_ages 0 ages report
-  pub field_size_is : field_size ≡ per_age
+  pub text : done ++ lines_of_ages passed left rows ≡ lines_of_ages 0 ages report
   pub row_size_is : row_size ≡ per_row
-  pub fields_left : per_age * passed + length fields ≡ per_age * length ages
+  pub ages_left : passed + length left ≡ length ages
   pub rows_left : per_row * passed + length rows ≡ per_row * length ages
 
-module _ {report old : List ℕ} where
-  pub none_lined : (fields : List ℕ) → length fields ≡ per_age * length (ages_of fields) → AgesFit (ages_of fields) report old
-      → Lined (ages_of fields) report old old 0 fields report per_age per_row 0
-  none_lined fields whole fit =
-      let rows = fit.rows_whole in
-      record {
-        done = [];
-        holds = record { bytes_are = refl; buffer_is = refl };
-        at_is = refl;
-        text = refl;
-        field_size_is = refl;
-        row_size_is = refl;
-        fields_left = omega arith;
-        rows_left = omega arith;
-      }
+pub none_lined : (ages : List Age) {report old : List ℕ} → AgesFit ages report old → Lined ages report old old 0 ages report per_row 0
+none_lined ages fit =
+    let rows = fit.rows_whole in
+    record {
+      done = [];
+      holds = record { bytes_are = refl; buffer_is = refl };
+      at_is = refl;
+      text = refl;
+      row_size_is = refl;
+      ages_left = omega arith;
+      rows_left = omega arith;
+    }
 
-module _ {ages : List Age} {report old part : List ℕ} {at : ℕ} {fields rows : List ℕ} {field_size row_size passed : ℕ}
-    (lined : Lined ages report old part at fields rows field_size row_size passed) where
-  pub next_lined : (age later row rows_later : List ℕ) → fields ≡ age ++ later → length age ≡ field_size → rows ≡ row ++ rows_later
+module _ {ages : List Age} {report old part : List ℕ} {at : ℕ} {left : List Age} {rows : List ℕ} {row_size passed : ℕ}
+    (lined : Lined ages report old part at left rows row_size passed) where
+  pub next_lined : (age : Age) (later : List Age) (row rows_later : List ℕ) → left ≡ age ∷ later → rows ≡ row ++ rows_later
       → length row ≡ row_size → {more : ℕ} {after : List ℕ}
-      → Holds (line_of (age_numbers (passed + 1) (age_at age) row)) more after (mid_of at (length part - at) part)
-      → Lined ages report old (put_mid at (length part - at) part after) (at + more) later rows_later field_size row_size (passed + 1)
-  next_lined age later row rows_later fields_are age_whole rows_are row_whole {more} {after} written =
-      let numbers = age_numbers (passed + 1) (age_at age) row in
+      → Holds (line_of (age_numbers (passed + 1) age row)) more after (mid_of at (length part - at) part)
+      → Lined ages report old (put_mid at (length part - at) part after) (at + more) later rows_later row_size (passed + 1)
+  next_lined age later row rows_later ages_are rows_are row_whole {more} {after} written =
+      let numbers = age_numbers (passed + 1) age row in
       let of_line = line_length_is numbers in
       let bytes = written.bytes_are in
       let at_is = lined.at_is in
-      let field_size_is = lined.field_size_is in
       let row_size_is = lined.row_size_is in
-      let fields_left = lined.fields_left in
+      let ages_left = lined.ages_left in
       let rows_left = lined.rows_left in
-      let fields_length = ap length fields_are ∙ length-append age later in
+      let left_length = ap length ages_are in
       let rows_length = ap length rows_are ∙ length-append row rows_later in
-      let next : lines_of_ages passed (ages_of fields) rows ≡ line_of numbers ++ lines_of_ages (passed + 1) (ages_of later) rows_later =
-      rw (fields_are, rows_are, next_age age later (omega arith), add-one passed)
-      (next_text passed (age_at age) (ages_of later) row rows_later (omega arith)) in
+      let next : lines_of_ages passed left rows ≡ line_of numbers ++ lines_of_ages (passed + 1) later rows_later =
+      rw (ages_are, rows_are, add-one passed) (next_text passed age later row rows_later (omega arith)) in
       record {
         done = lined.done ++ line_of numbers;
         holds = holds_then lined.holds written;
         at_is = omega arith;
-        text = append_assoc lined.done (line_of numbers) (lines_of_ages (passed + 1) (ages_of later) rows_later)
+        text = append_assoc lined.done (line_of numbers) (lines_of_ages (passed + 1) later rows_later)
             ∙ ap (λ (l : List ℕ). lined.done ++ l) (sym next) ∙ lined.text;
-        field_size_is = field_size_is;
         row_size_is = row_size_is;
-        fields_left = omega arith;
+        ages_left = omega arith;
         rows_left = omega arith;
       }
 
-  -- the fields and the rows end together
-  pub all_lined : (length fields < field_size) ⊎ (length rows < row_size) → Holds (lines_of_ages 0 ages report) at part old
+  -- the ages and the rows end together
+  pub all_lined : (left ≡ []) ⊎ (length rows < row_size) → Holds (lines_of_ages 0 ages report) at part old
   unfolding lines_of_ages
-  all_lined end =
-      let field_size_is = lined.field_size_is in
-      let row_size_is = lined.row_size_is in
-      let fields_left = lined.fields_left in
-      let rows_left = lined.rows_left in
-      rw (← lined.text, no_age fields (omega arith), append-nil) lined.holds
+  all_lined end = rw (← lined.text, none_left end, append-nil) lined.holds
+    where
+      none_left : (left ≡ []) ⊎ (length rows < row_size) → left ≡ []
+      none_left (inl none) = none
+      none_left (inr short) =
+          let row_size_is = lined.row_size_is in
+          let ages_left = lined.ages_left in
+          let rows_left = lined.rows_left in
+          nil_from_length left (omega arith)
 
 -- ---- an answer
 
 -- what the report program runs
 abbrev result : Quantities → OrRefusal Report
 result q = result_of q most_report most_scratch
-
-module _ (counts : Counts) (numbers : List ℕ) {q : Quantities} (is : quantities_with counts numbers ≡ q) where
-  -- how many ages the fields of a card have
-  pub age_count : length q.ages ≡ counts.ages
-  age_count = rw (← is) (ages_length counts.ages (drop (head_fields + per_segment * counts.segments) numbers))
-
-  -- an accepted run has a row for each
-  pub row_count : Readable counts numbers → (given : Report) → result q ≡ Ok given → length given.rows ≡ length q.ages
-  row_count readable given =
-      rw (← is) (λ gives. (close counts numbers readable.segments_most readable.ages_most most_report most_scratch given gives).linked.rows_count)
-
-rows_length : (rows : List Row) → length (numbers_of_rows rows) ≡ per_row * length rows
-unfolding numbers_of_rows
-rows_length [] = refl
-rows_length (row ∷ rows) = omega (arith, rows_length rows)
 
 -- the lines that the numbers of some rows make, one row for each age
 lines_are : (passed : ℕ) (ages : List Age) (rows : List Row) → length rows ≡ length ages

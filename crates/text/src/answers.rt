@@ -5,11 +5,9 @@ ghost use Rattle.text.specs.Text.{refusal_text, before_text, run_text};
 
 use crate::columns;
 use entries::run;
-use fields::layout::PER_AGE;
 use fields::limits::{MOST_REPORT, MOST_SCRATCH, PER_ROW};
 use fields::read::Fields;
 use fields::refusal::Refusal;
-use fields::segments::Age;
 use stages::before::BeforeAges;
 
 // A refusal's line.
@@ -39,17 +37,17 @@ pub(crate) fn put_before(part: &mut [u8], before: BeforeAges) -> usize
 }
 
 // A line for each age: its number, its hour and its row.
+#[tactic(auto, using(crate::proofs::Texts::none_lined, crate::proofs::Texts::next_lined))]
 fn put_ages(part: &mut [u8], fields: &Fields, rows: &[u64]) -> usize
     requires { AgesFit fields.now.ages rows.now part.old }
     ensures { Holds (lines_of_ages 0 fields.now.ages rows.now) result part.new part.old }
 {
-    let ages = fields.ages().chunks_exact(PER_AGE);
+    let rows = rows.chunks_exact(PER_ROW);
     let mut at = 0;
-    for (passed, (age, row)) in ages.zip(rows.chunks_exact(PER_ROW)).enumerate() {
-        let hour = Age::at(age).hour;
+    for (passed, ((_, age), row)) in fields.ages().zip(rows).enumerate() {
         let numbers = [
             passed as u64 + 1,
-            hour,
+            age.hour,
             row[0],
             row[1],
             row[2],

@@ -18,7 +18,10 @@ fn digit_or_space(rest: u64, column: usize) -> u8
     ZERO + (rest % 10) as u8
 }
 
-// A number in the columns at the front of a part, from the last to the first.
+// A number in the columns at the front of a part, from the last to the first. By hand: `write!` would lay out every digit of a number wider
+// than its columns, of which the last 14 stay. By number: the invariant of a loop over `iter_mut` with `rev` has no name for what is
+// written.
+#[tactic(auto, using(crate::proofs::Laying::none_laid, crate::proofs::Laying::one_more, crate::proofs::Laying::all_laid))]
 fn put_number(part: &mut [u8], number: u64)
     requires { columns ≤ length part.old }
     ensures { part.new ≡ over (in_columns number) part.old }
@@ -35,6 +38,7 @@ pub(crate) fn put_line(part: &mut [u8], numbers: &[u64]) -> usize
     requires { line_length (length numbers.now) ≤ length part.old }
     ensures { Holds (line_of numbers.now) result part.new part.old }
 {
+    // Cut by place: after a loop over `chunks_exact_mut` a proof knows the part's length, and no byte of it.
     for (done, number) in numbers.iter().enumerate() {
         put_number(&mut part[COLUMNS * done..], *number);
     }

@@ -1,5 +1,6 @@
 // What the programs `report` and `sheet` print, laid out in a lent buffer: numbers in columns of 14, right-justified behind spaces. The
-// core has no heap, and neither have its texts: each buffer has the bytes of the longest line, input or text.
+// core has no heap, and neither have its texts: each buffer has the bytes of the longest line, input or text. What lays a line or more out
+// gives how many bytes it has filled, and the rest is lent to the next, the form that document 01 names for rows.
 #![tactic(auto)]
 
 ghost use Rattle.std.specs.Prelude.{take, Ok};
@@ -36,6 +37,7 @@ pub enum Program {
 pub const MOST_READ_BYTES: usize = card::MOST_BYTES + 1;
 
 // A line of these numbers, cut to the most that a line has; how many bytes it has.
+#[tactic(auto, using(crate::proofs::Laying::counted, std::proofs::lemmas::List::take_min))]
 pub fn line_of(numbers: &[u64], line: &mut [u8; MOST_LINE_BYTES]) -> usize
     ensures holds { Holds (line_of (take most_per_line numbers.now)) result line.new line.old }
     ensures counted { Counted result line.new }
@@ -61,8 +63,8 @@ pub fn line_before_ages(before: BeforeAges, line: &mut [u8; MOST_LINE_BYTES]) ->
 }
 
 // What is printed of fields that a reader has filled. A trait or a closure in place of the `match` would name the program twice, since the
-// definition of its text takes the enum. From here on the room of a text is asked for: with an array in place of the slice the proofs did not
-// close.
+// definition of its text takes the enum. From here on the room of a text is asked for: with an array in place of the slice the proofs did
+// not close.
 fn put_fields(program: Program, part: &mut [u8], fields: &Fields) -> usize
     requires { RoomForText part.old }
     ensures { Holds (read_text program (Ok fields.now)) result part.new part.old }
@@ -87,7 +89,9 @@ fn put_card(program: Program, part: &mut [u8], card: &[u8]) -> usize
 }
 
 // What a program prints for an input that was read into a buffer until that was full or the input ended, so many bytes of it; how many
-// bytes the text has.
+// bytes the text has. The buffer comes whole, with how much of it is filled: by its size the contract says that what was not read decides
+// nothing.
+#[tactic(auto, using(crate::proofs::Laying::counted, crate::proofs::Texts::input_text, std::proofs::lemmas::List::take_min))]
 pub fn text_of_input(
     program: Program,
     buffer: &[u8; MOST_READ_BYTES],

@@ -22,7 +22,7 @@ fn put_elongations(part: &mut [u8], elongations: &[u64]) -> usize
     at
 }
 
-// What is printed of the sheet of fields that a reader has filled.
+// What is printed of the sheet of fields that a reader has filled. `put_run` is like it in shape alone: another answer, in other lines.
 pub(crate) fn put_sheet(part: &mut [u8], fields: &Fields) -> usize
     requires { RoomForText part.old }
     ensures { Holds (sheet_text_of fields.now) result part.new part.old }

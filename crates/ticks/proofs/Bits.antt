@@ -117,7 +117,7 @@ refuses_negative bits h l =
     omega arith))
 
 -- a set sign stands above the exponent
-pub refuses_above : (bits : ℕ) → bits < 2 ^ 64 → (bits ≡ 2 ^ 63 → ⊥) → large_exponent ≤ bits / 2 ^ 52 → accepted bits ≡ false
+refuses_above : (bits : ℕ) → bits < 2 ^ 64 → (bits ≡ 2 ^ 63 → ⊥) → large_exponent ≤ bits / 2 ^ 52 → accepted bits ≡ false
 refuses_above bits l n h = decide (ltb bits (2 ^ 63)) refl
   where
     decide : (b : Bool) → ltb bits (2 ^ 63) ≡ b → accepted bits ≡ false
@@ -132,9 +132,9 @@ decodes : (bits doublings quotient : ℕ) (exact : Bool) → accepted bits ≡ t
 unfolding decoded_of
 decodes bits doublings quotient exact a q e = rw (a, q, e)
 
-pub refuses : (bits doublings : ℕ) → accepted bits ≡ false → None ≡ decoded_of bits doublings
+pub refuses : (bits doublings : ℕ) → bits < 2 ^ 64 → (bits ≡ 2 ^ 63 → ⊥) → large_exponent ≤ bits / 2 ^ 52 → None ≡ decoded_of bits doublings
 unfolding decoded_of
-refuses bits doublings a = rw a
+refuses bits doublings l n h = rw (refuses_above bits l n h)
 
 pub minus_zero : (bits doublings : ℕ) → bits ≡ 2 ^ 63 → Some (cut 0 true) ≡ decoded_of bits doublings
 unfolding decoded_of magnitude
@@ -162,9 +162,6 @@ below_one bits doublings h d l c =
 unit_is : (digits : ℕ) → digits ≤ fraction_digits → 1 * 2 ^ digits % 2 ^ 64 ≡ 2 ^ digits
 unit_is digits h = shl_exact {a = 1} 1 digits 64 (lit< tt) (omega arith) ∙ one-mul (2 ^ digits)
 
-pub unit_some : (digits : ℕ) → digits ≤ fraction_digits → 0 < 1 * 2 ^ digits % 2 ^ 64
-unit_some digits h = rw (unit_is digits h) (pow_pos digits)
-
 -- the significand by the unit of the cut
 pub cut_off : (bits doublings : ℕ) → bits < 2 ^ 63 → doublings ≤ tick_doublings → bits / 2 ^ 52 < large_exponent
     → cut_of doublings (bits / 2 ^ 52) ≤ fraction_digits
@@ -191,3 +188,5 @@ cut_off bits doublings h d l c =
     (ap (λ (n : ℕ). significand / n) (unit_is digits c) ∙ sym q)
     (ap (λ (n : ℕ). eqb (significand % n) 0) (unit_is digits c)
     ∙ sym (ap (λ (n : ℕ). eqb n 0) r ∙ zero_scaled (significand % unit) p some))
+
+pub ruleset ways_out = (minus_zero, refuses, below_one, cut_off)

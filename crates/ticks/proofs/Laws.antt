@@ -8,11 +8,12 @@ use native.Mathlib.Nat.{mul_comm, mul_assoc, mul_right_comm, mul-lt-mul_of_pos_r
 use native.Mathlib.Omega.{arith}
 use lib.IntN.{ℤ}
 use lib.Dec.{T, ltb, eqb, lit<}
-use lib.Ieee.{Float, nan, inf, fin, binary64, up, down, fits, to_bits}
-use lib.Ieee.Fits.{down_pos}
+use lib.Ieee.{Float, nan, inf, fin, binary64, up, down, fits, is_nan, to_bits}
+use lib.Ieee.Fits.{down_pos, nan-fits}
 use lib.Ieee.Nearest.{div_same}
 use borrow.Author.Tests.{lt-ltb, le-ltb, ltb-true, ne_eqb}
-use Rattle.std.specs.Prelude.{Option, Some, None}
+use Rattle.std.specs.Prelude.{Some, None}
+use Rattle.std.proofs.lemmas.Option.{cond_some}
 use Rattle.ticks.specs.Doubles.{sign, exponent, magnitude, one, not_finite, too_large, accepted, ticks_of, whole_of}
 use Rattle.ticks.specs.Ticks.{ticks_per_unit}
 use Rattle.ticks.proofs.Values.{stands, accepted_value, same_whole, one_some}
@@ -76,11 +77,20 @@ refused (fin s m e) f u =
     let bits = to_bits binary64 (fin s m e) in
     not_accepted bits (accepted_value bits s m e (stands s m e f) ∙ out_of_range s m e u)
 
--- ---- how large an amount can be
+-- so is a NaN, as the code tests for it
+is_the_nan : (x : Float) → is_nan x ≡ true → x ≡ nan
+unfolding is_nan
+is_the_nan nan e = refl
+is_the_nan (inf s) e = cc
+is_the_nan (fin s m d) e = cc
 
-picked : (b : Bool) (a n : ℕ) → cond b (Some a) None ≡ Some n → (b ≡ true) × (a ≡ n)
-picked true a n e = (refl, cc)
-picked false a n e = absurd (let z : ◌≡◌ {A = ℕ} 0 1 = cc in omega arith)
+pub nan_ticks : (x : Float) → is_nan x ≡ true → ticks_of (to_bits binary64 x) ≡ None
+nan_ticks x e = rw (is_the_nan x e) (refused nan (nan-fits binary64) tt).0
+
+pub nan_whole : (x : Float) → is_nan x ≡ true → whole_of (to_bits binary64 x) ≡ None
+nan_whole x e = rw (is_the_nan x e) (refused nan (nan-fits binary64) tt).1
+
+-- ---- how large an amount can be
 
 small : (bits : ℕ) → accepted bits ≡ true → magnitude bits < too_large * one
 small bits a =
@@ -91,7 +101,7 @@ small bits a =
 pub ticks_below : (bits n : ℕ) → ticks_of bits ≡ Some n → n < 2 ^ 41
 unfolding ticks_of
 ticks_below bits n e =
-    let taken = picked (accepted bits) (magnitude bits * ticks_per_unit / one) n e in
+    let taken = cond_some (accepted bits) (magnitude bits * ticks_per_unit / one) n e in
     let m = small bits taken.0 in
     rw (← taken.1) ((div-lt_iff_lt-mul one_some).1 (mul-lt-mul_of_pos_right m (lit< tt)))
 
@@ -99,6 +109,6 @@ ticks_below bits n e =
 pub whole_below : (bits n : ℕ) → whole_of bits ≡ Some n → n < 2 ^ 31
 unfolding whole_of
 whole_below bits n e =
-    let taken = picked (accepted bits && eqb (magnitude bits % one) 0) (magnitude bits / one) n e in
+    let taken = cond_some (accepted bits && eqb (magnitude bits % one) 0) (magnitude bits / one) n e in
     let a = ((and-eq-true_iff (accepted bits) (eqb (magnitude bits % one) 0)).0 taken.0).0 in
     rw (← taken.1) ((div-lt_iff_lt-mul one_some).1 (small bits a))

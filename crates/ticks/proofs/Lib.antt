@@ -1,4 +1,3 @@
 pub mod Laws
 mod Bits
 mod Values
-mod Readings

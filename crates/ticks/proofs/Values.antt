@@ -100,7 +100,8 @@ pub stands : (s : Bool) (m : ℕ) (e : ℤ) → T (fits binary64 (fin s m e)) �
 unfolding of_bits
 stands s m e f =
     let bits = to_bits binary64 (fin s m e) in
-    let parts = fields (fin s m e) (sign bits) (exponent bits) (fraction bits) (omega arith) (of_bits-to_bits binary64 (fin s m e) f) refl in
+    let back = of_bits-to_bits binary64 (fin s m e) f in
+    let parts = fields (fin s m e) (sign bits) (exponent bits) (fraction bits) (omega arith) back refl in
     record { below = parts.0; signed = sym parts.1.0; value = ap (λ (n : ℕ). n * down e) (magnitude_at_is bits) ∙ sym parts.1.1 }
 
 -- ---- the double is accepted by its value

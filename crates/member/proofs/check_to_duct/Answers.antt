@@ -3,5 +3,5 @@ use mathlib.Core.Path.{sym, ◌∙◌}
 use Rattle.member.proofs.Laws.{below_hours}
 use Rattle.member.proofs.check_to_duct.Goals as goal
 
-pub check_duct-requires : goal.check_duct-requires
-check_duct-requires c = below_hours c.args.fields.now (sym c.check_to_hours.ensures ∙ c.in_ok-check_to_hours.was)
+pub invariant_of-check_duct : goal.invariant_of-check_duct
+invariant_of-check_duct c = below_hours c.args.fields.now (sym c.check_to_hours.ensures ∙ c.in_ok-check_to_hours.was)

@@ -37,4 +37,4 @@ exact (suc t) h =
 
 pub returns : goal.returns
 unfolding of_bits
-returns c = exact c.args.ticks (search rules)
+returns c = rw c.from.ensures (exact c.args.ticks (search rules))

@@ -1,17 +1,11 @@
 -- At the loop's head the row gives what the ages that are left give, from the sum of the moments before them. Assumes nothing.
 use mathlib.Core.Path.{◌≡◌}
-use Prim.Native.Nat.{◌+◌, ◌*◌, ◌<◌, ◌^◌}
-use lib.ListN.{length}
-use Rattle.fields.specs.Quantities.{per_age, ages_of}
+use Rattle.fields.specs.Along.{ages_of}
 use Rattle.checks.specs.Rows.{checked, ranges_of_moments}
 use Rattle.checks.proofs.ranges.of_moments.Given as goal
 
-abbrev pub invariant-loop-age : goal.invariant-loop-age
-invariant-loop-age l =
-    let here = l.place + per_age * l.age-iterator.count in
-    let rest = l.age-iterator.iter.rest.now in
-    record {
-      size : l.age-iterator.iter.size ≡ per_age;
-      places_fit : here + length rest < 2 ^ 64;
-      same : checked (ranges_of_moments l.place l.before (ages_of l.ages)) ≡ checked (ranges_of_moments here l.moments (ages_of rest));
-    }
+abbrev pub invariant-loop-place : goal.invariant-loop-place
+invariant-loop-place l =
+    let left = l.place-iterator in
+    checked (ranges_of_moments l.ages.place l.before (ages_of l.ages.fields.now))
+    ≡ checked (ranges_of_moments left.place l.moments (ages_of left.fields.now))

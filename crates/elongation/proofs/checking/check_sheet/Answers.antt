@@ -10,8 +10,8 @@ returns-in_err-check_to_hours c =
     let refusal : c.from_residual.result ≡ Err c.in_err-check_to_hours.field-0.0 = search rules in
     refusal ∙ below_rows c.args.fields.now c.args.room c.in_err-check_to_hours.ensures
 
-pub check_below_hours-requires : goal.check_below_hours-requires
-check_below_hours-requires c = to_hours_passed c.args.fields.now c.in_ok-check_to_hours.ensures
+pub invariant_of-check_below_hours : goal.invariant_of-check_below_hours
+invariant_of-check_below_hours c = to_hours_passed c.args.fields.now c.in_ok-check_to_hours.ensures
 
 pub returns : goal.returns
 returns c = c.check_below_hours.ensures ∙ below_rows c.args.fields.now c.args.room c.in_ok-check_to_hours.ensures

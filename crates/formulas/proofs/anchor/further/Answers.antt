@@ -1,18 +1,13 @@
 -- The invariant: `reached` is in, and what lies `left` above it is not. The measure is `left`. Assumes nothing.
 use Prim.Native.Nat.{ℕ, ◌+◌, ◌*◌, ◌/◌, ◌≤◌}
-use native.Mathlib.Nat.{mul-le-mul, mul-le-mul_right}
+use native.Mathlib.Nat.{mul-le-mul}
 use native.Mathlib.Omega.{arith}
-use Rattle.formulas.specs.Roots.{word_limit, FurtherFits}
 use Rattle.formulas.proofs.anchor.further.Goals as goal
 use Rattle.formulas.proofs.anchor.further.Goals.{then-middle-root, else-middle-root}
 
 -- the product rises with n
 grows : (root m n : ℕ) → m ≤ n → m * (2 * root + m) ≤ n * (2 * root + n)
 grows root m n h = mul-le-mul h (omega arith)
-
--- a product of a number above 0 is no less than the other factor, which so fits as it does
-sum_fits : {root rest above : ℕ} → FurtherFits root rest above → 2 * root + above ≤ word_limit
-sum_fits {root} {above = above} fits = omega (arith, fits.product_fits, mul-le-mul_right (2 * root + above) fits.some)
 
 pub overflow_mul-middle : goal.overflow_mul-middle
 overflow_mul-middle c =

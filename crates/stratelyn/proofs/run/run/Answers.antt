@@ -9,7 +9,7 @@ use Prim.Native.Nat.{◌*◌}
 use Rattle.fields.specs.Limits.{per_row}
 use Rattle.fields.specs.Quantities.{quantities_read}
 use Rattle.fields.proofs.Reading.{readable, same_read}
-use Rattle.stratelyn.proofs.Rows.{age_count}
+use Rattle.fields.proofs.Counting.{age_count}
 use Rattle.stratelyn.proofs.Hosting.{none_reported, run_room, rows_reported}
 use Rattle.stratelyn.proofs.Serving.{read_reported, not_read}
 use Rattle.stratelyn.proofs.run.run.Given.{Over}

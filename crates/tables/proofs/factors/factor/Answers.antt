@@ -1,68 +1,42 @@
--- The walk goes along the rows as the definition does: at the loop's head the reading is the one from the row `low` along the rows that
--- are left. Each turn is a lemma over plain rows. Assumes nothing.
-use mathlib.Core.Path.{◌≡◌, refl, sym, ◌∙◌}
-use mathlib.Core.List.{List, [], ◌∷◌}
-use Prim.Native.Nat.{ℕ, ◌+◌, ◌≤◌, ◌<◌}
+-- `factor` meets its contract: `position` finds the first row that x is before, or that x is before none. Assumes nothing.
+use mathlib.Core.Path.{◌≡◌, ◌∙◌}
+use Prim.Native.Nat.{◌-◌, ◌≤◌, ◌<◌}
 use native.Mathlib.Omega.{arith}
-use lib.ListN.{length, drop, drop_of_length-le}
-use borrow.Author.Tests.{lt-ltb, le-ltb}
-use Rattle.std.proofs.Common.{add-one, drop-cons}
-use Rattle.tables.specs.declared.Row.{Row}
-use Rattle.tables.specs.Tables.{row, at, at_row, on_line, along, reading}
-use Rattle.tables.specs.Conditions.{row_at}
-use Rattle.tables.proofs.factors.factor.Invariants.{Follows}
+use lib.ListN.{length}
+use borrow.Author.Tests.{tests}
+use Rattle.std.specs.Prelude.{MatchOption}
+use Rattle.std.specs.List.{AllWithin, HoldsAt, slice_get}
+use Rattle.std.specs.Option.{option_map_or}
+use Rattle.std.proofs.Common.{rules}
+use Rattle.std.proofs.lemmas.Iterator.{YieldsList-from_slice, IsFirst-from_position}
+use Rattle.tables.specs.Tables.{row, at, at_row}
+use Rattle.tables.proofs.Order.{before_first, up_to, before_none}
+use Rattle.tables.proofs.factors.factor.Goals.{After-position}
 use Rattle.tables.proofs.factors.factor.Goals as goal
 
-module _ (unit x : ℕ) where
-  none : (rows : List Row) → length rows ≡ 0 → 0 ≡ reading unit rows x
-  unfolding reading
-  none [] e = refl
-  none (first ∷ rest) e = absurd (omega arith)
+found : (c : After-position)
+    → MatchOption c.position.result (AllWithin (λ r. at r ≤ c.args.x) c.args.rows.now 0 (length c.args.rows.now)) (λ place.
+    (place < length c.args.rows.now)
+    × HoldsAt (λ r. c.args.x < at r) c.args.rows.now place
+    × AllWithin (λ r. at r ≤ c.args.x) c.args.rows.now 0 place)
+found c =
+    IsFirst-from_position _ _ _ (λ r. c.args.x < at r) (λ r. at r ≤ c.args.x) c.position.ensures.ran
+    (YieldsList-from_slice _ c.iter.ensures.rest) (λ r q k. search (rules, tests)) (λ r q k. search (rules, tests))
 
-module _ (unit x : ℕ) {rows : List Row} {first : Row} {rest : List Row} (e : rows ≡ first ∷ rest) where
-  before_first : x < at first → at_row unit first ≡ reading unit rows x
-  unfolding reading
-  before_first h = rw (e, lt-ltb x (at first) h)
+pub returns-in-Some-eq0 : goal.returns-in-Some-eq0
+returns-in-Some-eq0 c =
+    let first = rw (c.in-Some-eq0.is, c.in-Some-eq0.field-0-test) at (found (goal.at.returns-in-Some-eq0 c).After-position) in
+    c.at_row.ensures ∙ before_first _ _ _ first.0 (first.1 (row 0 0))
 
-  begins : at first ≤ x → Follows (reading unit rows x) unit x first rest 0
-  unfolding reading
-  begins h = record { passed = h; same = rw (e, le-ltb x (at first) h) }
+pub returns-in-Some : goal.returns-in-Some
+returns-in-Some c =
+    let first = rw c.in-Some.is at (found (goal.at.returns-in-Some c).After-position) in
+    c.on_line.ensures
+    ∙ up_to _ _ _ _ _ (omega (arith, c.in-Some.high-test.1)) first.0 (first.1 (row 0 0)) (λ k l. first.2 k (row 0 0) (omega arith) l)
 
-module _ {value unit x : ℕ} {low : Row} {rest : List Row} {index : ℕ} (f : Follows value unit x low rest index) where
-  ends : length rest ≤ index → at_row unit low ≡ value
-  unfolding along
-  ends h = sym (f.same ∙ rw (drop_of_length-le rest {i = index} h))
-
-  module _ (more : index < length rest) where
-    abbrev high : Row
-    high = row_at rest index
-
-    -- it is the first of the rows that are left
-    next : value ≡ along unit x low (high ∷ drop (index + 1) rest)
-    next = f.same ∙ rw (add-one index, drop-cons rest index (row 0 0) more)
-
-    between : x < at high → on_line unit x low high ≡ value
-    unfolding along
-    between h = sym (next ∙ rw (lt-ltb x (at high) h))
-
-    goes_on : at high ≤ x → Follows value unit x high rest (index + 1)
-    unfolding along
-    goes_on h = record { passed = h; same = next ∙ rw (le-ltb x (at high) h) }
-
-pub returns-in_default : goal.returns-in_default
-returns-in_default c = none _ _ _ c.in_default.ensures.cases
-
-pub returns-then-x-first : goal.returns-then-x-first
-returns-then-x-first c = c.at_row.ensures ∙ before_first _ _ c.in-Some.ensures.cases.0 c.if-x-first.true
-
-pub loop-high-init : goal.loop-high-init
-loop-high-init c = begins _ _ c.in-Some.ensures.cases.0 c.if-x-first.false
-
-pub returns-then-x-high : goal.returns-then-x-high
-returns-then-x-high c = c.on_line.ensures ∙ between c.loop-high.invariant c.loop-high-test.true c.if-x-high.true
-
-pub loop-high-preserved : goal.loop-high-preserved
-loop-high-preserved c = goes_on c.loop-high.invariant c.loop-high-test.true c.if-x-high.false
-
-pub returns : goal.returns
-returns c = c.at_row-2.ensures ∙ ends c.loop-high.invariant c.loop-high-test.false
+pub returns-in-None : goal.returns-in-None
+returns-in-None c =
+    let none = rw c.in-None.is at (found (goal.at.returns-in-None c).After-position) in
+    let rows = c.args.rows.now in
+    let last : c.map_or.result ≡ option_map_or (at_row c.args.unit) (slice_get rows (length rows - 1)) 0 = search rules in
+    last ∙ before_none _ _ _ (λ k l. none k (row 0 0) (omega arith) l)

@@ -6,7 +6,9 @@ use native.Mathlib.Omega.{arith}
 use lib.ListN.{length, take}
 use Rattle.std.proofs.lemmas.List.{length-take-le}
 use Rattle.fields.specs.Limits.{per_row}
-use Rattle.text.proofs.Texts.{age_count, row_count, holds_then, ages_fit, run_printed}
+use Rattle.fields.proofs.Counting.{age_count}
+use Rattle.entries.proofs.Closeness.{row_count}
+use Rattle.text.proofs.Texts.{holds_then, ages_fit, run_printed}
 use Rattle.text.proofs.answers.put_run.Goals as goal
 
 pub put_ages-requires : goal.put_ages-requires
@@ -20,5 +22,5 @@ put_ages-requires c =
 pub returns-in-Ok : goal.returns-in-Ok
 returns-in-Ok c =
     let ran = c.in-Ok.ensures in
-    run_printed c.args.fields.now _ _ _ (row_count _ _ c.fields.view_is c.fields.invariant) ran.answered ran.report_is
+    run_printed c.args.fields.now _ _ _ (row_count _ _ c.fields.view_is c.fields.invariant _ _) ran.answered ran.report_is
     (rw (age_count _ _ c.fields.view_is) (holds_then c.put_before-at.ensures c.put_ages.ensures))

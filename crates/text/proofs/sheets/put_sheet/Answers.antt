@@ -1,7 +1,7 @@
 -- What the answer prints is what the sheet does: a refusal's line, or the segments' lines and behind them that of the sum. Assumes nothing.
 use native.Mathlib.Omega.{arith}
 use Rattle.std.proofs.lemmas.List.{length-take-le}
-use Rattle.elongation.proofs.Counting.{path_count, few_segments}
+use Rattle.fields.proofs.Counting.{path_count, few_segments}
 use Rattle.text.proofs.Texts.{holds_then}
 use Rattle.text.proofs.SheetTexts.{room_behind, sheet_printed}
 use Rattle.text.proofs.sheets.put_sheet.Goals as goal

@@ -2,14 +2,14 @@
 -- the buffer. Assumes nothing.
 use mathlib.Core.Path.{◌≡◌, refl, sym, ap, ◌∙◌}
 use mathlib.Core.List.{List}
-use Prim.Native.Nat.{ℕ, ◌+◌, ◌-◌, ◌*◌}
+use Prim.Native.Nat.{ℕ, ◌+◌, ◌-◌, ◌*◌, ◌≤◌, ◌<◌}
 use native.Mathlib.Omega.{arith}
-use lib.ListN.{length, take, drop}
+use lib.ListN.{length, take, drop, length-take}
 use lib.Seq.{drop-drop}
 use Rattle.std.specs.Prelude.{Option, None, Result, Ok, Err}
 use Rattle.std.specs.Option.{ok_or}
+use Rattle.std.proofs.lemmas.List.{take_rest, take-append-drop, set-append_left, set-get_or}
 use Rattle.std.proofs.lemmas.Result.{err_from_is_err_and}
-use Rattle.fields.proofs.Buffers.{tail}
 use Rattle.fields.specs.Quantities.{columns}
 use Rattle.line.specs.Lines.{field_of}
 use Rattle.line.proofs.Amounts.{begins, turn, wrong_field, all_fields}
@@ -26,48 +26,52 @@ same_line line wrong read none e = let is : ◌≡◌ {A = Result ℕ ℕ} (Err 
 part_behind : {part : List ℕ} (bytes : List ℕ) (at more to : ℕ) → part ≡ drop at bytes → at + more ≡ to
     → take (length part - more) (drop more part) ≡ drop to bytes
 part_behind {part = part} bytes at more to is e =
-    tail part more ∙ ap (drop more) is ∙ drop-drop more at bytes ∙ ap (λ (k : ℕ). drop k bytes) e
+    take_rest part more ∙ ap (drop more) is ∙ drop-drop more at bytes ∙ ap (λ (k : ℕ). drop k bytes) e
 
 pub loop-done-init : goal.loop-done-init
-loop-done-init c = record { part_is = refl; front = begins _ _ _ _ _ (omega arith) (sym c.is_shaped.ensures ∙ c.if-not-is_shaped.false) }
+loop-done-init c = record {
+  part_is = refl;
+  front = rw take-append-drop (begins _ _ _ _ _ (omega arith) (sym c.is_shaped.ensures ∙ c.if-not-is_shaped.false));
+}
 
 pub loop-done-preserved : goal.loop-done-preserved
 loop-done-preserved c =
     let loop = c.loop-done in
+    let more : loop.done < length loop.number-items = omega arith in
     record {
-      part_is = part_behind c.args.self.now.bytes.now (columns * loop.done) columns (columns * (loop.done + 1)) loop.invariant.part_is (omega arith);
+      part_is = part_behind _ (columns * loop.done) columns (columns * (loop.done + 1)) loop.invariant.part_is (omega arith);
       front =
-          turn loop.invariant.front c.in_ok-fields.field-0 c.loop-done-test.true
-          (field_read _ loop.invariant.part_is c.read_field.ensures ∙ c.in_ok-fields.ensures.ok_part);
+          rw (← set-append_left loop.number-items)
+          (turn loop.invariant.front c.in_ok-number.field-0 (omega (arith, length-take {A = ℕ}))
+          (field_read _ loop.invariant.part_is c.read_field.ensures ∙ c.in_ok-number.ensures.ok_part));
     }
 
-pub returns-in_err-fields : goal.returns-in_err-fields
-returns-in_err-fields c =
+pub returns-in_err-number : goal.returns-in_err-number
+returns-in_err-number c =
     let loop = c.loop-done in
     let error = err_from_is_err_and c.from_residual.result c.from_residual.ensures.1 in
-    let none = c.in_err-fields.ensures.ok_part in
+    let none = c.in_err-number.ensures.ok_part in
     let wrong =
-    wrong_field loop.invariant.front c.loop-done-test.true (field_read _ loop.invariant.part_is c.read_field.ensures ∙ none) in
+    wrong_field loop.invariant.front (omega (arith, length-take {A = ℕ}))
+    (field_read _ loop.invariant.part_is c.read_field.ensures ∙ none) in
     record {
       value =
           rw (error.1, error.2, wrong.value)
-          (ap Err (same_line c.args.self.now.line c.in_err-fields.field-0.0 c.read_field.result none c.in_err-fields.ensures.value));
-      fields_after = wrong.fields_after;
+          (ap Err (same_line c.args.self.now.line c.in_err-number.field-0.0 c.read_field.result none c.in_err-number.ensures.value));
+      fields_after = rw set-get_or wrong.fields_after;
     }
 
-pub returns : goal.returns
-returns c =
+pub returns-clause-value : goal.returns-clause-value
+returns-clause-value c =
     let loop = c.loop-done in
-    let all = all_fields loop.invariant.front c.loop-done-test.false in
+    let whole : c.args.count ≤ loop.done = omega (arith, length-take {A = ℕ}) in
+    let all = all_fields loop.invariant.front whole in
     let within = loop.invariant.front.within in
     record {
-      value = record {
-        rest =
-            rw all.value
-            (ap Ok (sym (part_behind c.args.self.now.bytes.now (columns * loop.done) 1 (columns * c.args.count + 1) loop.invariant.part_is (omega arith))));
-        line = refl;
-        field = omega arith;
-        blank = refl;
-      };
-      fields_after = all.fields_after;
+      rest =
+          rw all.value
+          (ap Ok (sym (part_behind _ (columns * loop.done) 1 (columns * c.args.count + 1) loop.invariant.part_is (omega arith))));
+      line = refl;
+      field = omega arith;
+      blank = refl;
     }

@@ -3,9 +3,9 @@
 use native.Mathlib.Omega.{arith}
 use lib.ListN.{length-drop}
 use lib.Seq.{length-take-le}
+use Rattle.std.proofs.lemmas.List.{take_rest}
 use Rattle.std.proofs.lemmas.Result.{err_from_is_err_and}
-use Rattle.fields.proofs.Buffers.{tail}
-use Rattle.line.proofs.LineByLine.{no_lines, all_lines, fits, next_line, wrong_line}
+use Rattle.line.proofs.LineByLine.{no_lines, fits, next_line, wrong_line}
 use Rattle.line.proofs.lines.Unread.read_lines.Goals as goal
 
 pub loop-count-init : goal.loop-count-init
@@ -18,7 +18,7 @@ read_line-requires c =
     let line = front.there.line in
     let field = front.there.field in
     record {
-      room = rw (tail c.loop-count.fields c.loop-count.read) (simp length-drop (omega arith));
+      room = rw take_rest (simp length-drop (omega arith));
       numbered = omega arith;
       lines_numbered = omega (arith, length-take-le c.loop-count.count-index c.args.counts.now front.within);
     }
@@ -37,8 +37,3 @@ loop-count-preserved c =
 
 pub overflow_add-read : goal.overflow_add-read
 overflow_add-read c = let front = loop-count-preserved c in let fit = front.read_fits in omega arith
-
-pub returns : goal.returns
-returns c =
-    let both = all_lines c.loop-count.invariant c.loop-count-test.false in
-    record { value = both.0; fields_after = both.1 }
