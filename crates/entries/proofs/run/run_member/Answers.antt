@@ -1,5 +1,6 @@
 -- The three ways of a run: it is refused before the ages, or at an age, or the rows go to the report. Assumes nothing.
 use mathlib.Core.Path.{sym}
+use native.Mathlib.Omega.{arith}
 use Rattle.std.proofs.lemmas.Result.{err_from_is_err_and}
 use Rattle.fields.proofs.Counting.{age_count, few_segments}
 use Rattle.stages.proofs.Beginning.{begun_fits}
@@ -43,10 +44,11 @@ pub report_rows-requires : goal.report_rows-requires
 report_rows-requires c =
     let args = c.args in
     let lent = room args.fields.now args.report.now args.scratch.now args.member c.requires in
-    rw (← age_count _ _ c.fields.view_is) (record {
-      report_room_fits = lent.report_room_fits;
-      scratch_room_fits = rw c.run_ages.ensures.scratch_length lent.scratch_room_fits;
-    })
+    let report_room_fits = lent.report_room_fits in
+    let scratch_room_fits = lent.scratch_room_fits in
+    let count = age_count _ _ c.fields.view_is in
+    let kept = c.run_ages.ensures.scratch_length in
+    record { report_room_fits = omega arith; scratch_room_fits = omega arith }
 
 pub returns : goal.returns
 returns c =
