@@ -23,6 +23,7 @@ PLAIN_NUMBERS = {
     "HEAD_FIELDS": len(paper.HEAD),
     "FIELDS_PER_SEGMENT": len(paper.SEGMENT),
     "FIELDS_PER_AGE": len(paper.AGE),
+    "MOST_PATHS": list(paper.BODY.values()).count(paper.SEGMENT),
     "MOST_SEGMENTS": paper.MOST_SEGMENTS,
     "MOST_AGES": paper.MOST_AGES,
     "TICKS_PER_PSI": paper.TICKS,

@@ -7,9 +7,10 @@ from math import ceil
 from layout import card_of, start_of
 from paper import (
     ACCELERATED, AGE, BEND, BLANK, COLUMNS, LEAST_STRESS, LEAST_TRANSFER, LIFE, LINE_FEED, LOW_RELAXATION, MOIST, MOST_AGES,
-    MOST_CREEP, MOST_CURING_IF_MOIST, MOST_KAPPA, MOST_MOMENTS, MOST_SEGMENTS, MOST_TRANSFER, MOST_X, NORMAL, NUMBER, PARABOLA,
-    POST_TENSIONED, PRETENSIONED, SEGMENT_RANGES, STRAIGHT, STRESS_RELIEVED, T, TICKS, Age, Head, Segment, card_rows, drop_at_jack,
-    field_of, friction, friction_factor, friction_loss, inches, most_of, path_length, run, stress_left, whole_creep,
+    MOST_APART, MOST_CREEP, MOST_CURING_IF_MOIST, MOST_KAPPA, MOST_MOMENTS, MOST_SEGMENTS, MOST_TRANSFER, MOST_X, NORMAL, NUMBER,
+    PARABOLA, POST_TENSIONED, PRETENSIONED, SEGMENT_RANGES, STRAIGHT, STRESS_RELIEVED, T, TICKS, Age, Head, Segment, card_rows,
+    drop_at_jack, field_of, friction, friction_factor, friction_loss, inches, most_of, path_length, path_that_goes_on, run,
+    seating_losses, stress_left, whole_creep,
 )
 
 MONTH, YEAR = 744, 8784
@@ -38,10 +39,10 @@ OLDER_MOST_X = 3 * T // 10
 OLDER_MOST_AGES = 64
 
 
-def card(base, path=(), loads=AGES, /, **changes):
-    """A card with a base's head, its counts those of path and loads, and then some fields changed."""
-    head = base._replace(segments=len(path), ages=len(loads))._replace(**changes)
-    return card_of(head, path, loads)
+def card(base, path=(), loads=AGES, /, second=(), **changes):
+    """A card with a base's head, its counts those of path, second path and loads, and then some fields changed."""
+    head = base._replace(segments=len(path), second_segments=len(second), ages=len(loads))._replace(**changes)
+    return card_of(head, path, second, loads)
 
 
 def of_field(name, value):
@@ -242,17 +243,18 @@ def stress():
 
 
 def longest():
-    """The longest good card."""
-    kinds = (Segment(STRAIGHT, 2048, 0), Segment(PARABOLA, 65536, 512), Segment(BEND, 0, 10))
-    path = [kinds[i % len(kinds)] for i in range(MOST_SEGMENTS)]
+    """The longest good card; its two paths begin with another kind."""
+    kinds = (Segment(STRAIGHT, 2048, 0), Segment(PARABOLA, 32768, 512), Segment(BEND, 0, 10))
+    first, second = ([kinds[(start + i) % len(kinds)] for i in range(MOST_SEGMENTS)] for start in (0, 1))
     loads = [age._replace(moment=i * 1000 % 7777) for i, age in enumerate(ages_of(MOST_AGES))]
     section = dict(inertia=2**26, eccentricity=2048, own_weight_moment=2**20)
-    return card(POST, path, loads, jacking_stress=180000, wobble=100, curvature=100000, **section)
+    duct = dict(slip=field_of("slip").blank, length=path_length(first + second), wobble=100, curvature=100000)
+    return card(POST, first, loads, second=second, jacking_stress=180000, **section, **duct)
 
 
 def long_cards():
     text = longest()
-    label = "the longest good card, post-tensioned, %d segments and %d ages: %d bytes"
+    label = "the longest good card, post-tensioned, two paths of %d segments and %d ages: %d bytes"
     yield label % (MOST_SEGMENTS, MOST_AGES, len(text)), text
     hours = [PRE.transfer + 1 + 3 * i * i for i in range(MOST_AGES - 1)] + [LIFE]
     yield "pretensioned, %d ages" % MOST_AGES, card(PRE, (), [Age(hour, 50 * i) for i, hour in enumerate(hours)])
@@ -303,7 +305,7 @@ def gain_edge(over):
     """A card whose stress after the first age's gain is so many ticks over 0.80 F."""
     for strength in range(150000, most_of("ultimate_strength"), 5):
         base = LIFTED._replace(ultimate_strength=strength)
-        _, (first, *_) = run(base, [], AGES)
+        _, (first, *_) = run(base, [], [], AGES)
         gain = strength * 4 * TICKS // 5 + over - first.stress
         rise = -(-gain * base.ec // base.es)
         if base.es * rise // base.ec == gain:
@@ -335,7 +337,7 @@ def blank_slips():
     yield "slip %d, as a blank one reads" % reads, card(POST, slip=reads)
     # So short that older wedges leave enough for all later losses, where a blank slip leaves just too little.
     short = POST._replace(length=12800)
-    losses, _ = run(short._replace(slip=reads), [], AGES)
+    losses, _ = run(short._replace(slip=reads), [], [], AGES)
     weak = short._replace(jacking_stress=(LEAST_STRESS + losses.slip - 1) // TICKS)
     yield "stress under %d psi by a blank slip" % (LEAST_STRESS // TICKS), with_blank_slip(weak)
     yield "slip %d of the same, enough stress left" % OLDER_SLIP, card(weak, slip=OLDER_SLIP)
@@ -586,10 +588,193 @@ def gauges_apart():
         yield label % (stress, friction_loss(base, path), path_length(path)), card(base, path)
 
 
+# The girder jacked at both ends, with a section at its pier: the first path comes to it from the left, the second from the right.
+FRAME = BRIDGE._replace(slip=ANCHORED.slip)
+LEFT, RIGHT = GIRDER[:3], GIRDER[:2:-1]
+
+# Ages right after transfer, when hardly any stress is lost.
+SOON = [Age(POST.transfer + hours, 0) for hours in (1, 2, 3)]
+
+
+def both(base, first, second, loads=AGES, /, **changes):
+    """A card with two paths and a tendon as long as both together, and then some fields changed."""
+    return card(base, first, loads, second=second, **{"length": path_length(first + second), **changes})
+
+
+def of_paths(label, base, first, second):
+    """The card, and with its label what each path loses and which one goes on."""
+    head = base._replace(length=path_length(first + second))
+    goes_on = "first" if path_that_goes_on(head, first, second) is first else "second"
+    losses = ", ".join("friction %d and slip %d" % seating_losses(head, path) for path in (first, second))
+    return "%s: %s, the %s path goes on" % (label, losses, goes_on), both(base, first, second)
+
+
+def straights(*lengths):
+    return [Segment(STRAIGHT, length, 0) for length in lengths]
+
+
+def both_ends():
+    yield "a girder jacked at its left end alone", card(FRAME, LEFT, length=path_length(GIRDER))
+    yield of_paths("jacked at both ends", FRAME, LEFT, RIGHT)
+    yield of_paths("the same from the other side", FRAME, RIGHT, LEFT)
+    wobbling = FRAME._replace(wobble=most_of("wobble"))
+    for label, near, far in (("slip at the section", 20, 30), ("slip on one path", 10, 90)):
+        paths = straights(near * TICKS), straights(far * TICKS)
+        yield of_paths(label, wobbling, *paths)
+        yield of_paths("the same from the other side", wobbling, *reversed(paths))
+    yield of_paths("no segment on the first path", FRAME, [], GIRDER)
+
+
+def second_counts():
+    """Each count wholly before the next, in the order 23, 24, 25; the most segments of a second path, and a line too few or too many."""
+    over, few = MOST_SEGMENTS + 1, AGES[:2]
+    yield "%d segments on each path and 2 ages" % over, card(POST, (), few, segments=over, second_segments=over)
+    yield "2 ages and %d segments on the second path" % over, card(POST, (), few, second_segments=over)
+    yield "%d segments on the second path" % over, card(POST, (), AGES, second=over * straights(TICKS))
+    yield "%d segments on the second path, no line of them" % over, card(POST, second_segments=over)
+    yield "as many segments on the second path as the columns hold", card(POST, second_segments=10**COLUMNS - 1)
+    for label, changes in (
+        ("a letter", dict(second_segments="x")),
+        ("%d segments on the first path and a letter" % over, dict(segments=over, second_segments="x")),
+        ("no digit", dict(second_segments="")),
+    ):
+        yield label + " in the count of the second path's segments", card(POST, **changes)
+    text, start = card(POST), start_of("second_segments")
+    yield "line 4 without the second path's count", text[:start] + text[start + COLUMNS :]
+    most = MOST_SEGMENTS * straights(TICKS)
+    yield "%d segments on the second path alone" % MOST_SEGMENTS, both(BRIDGE, [], most)
+    yield "the same, last line missing", last_line_missing(both(BRIDGE, [], most))
+    yield "the same, a line of a segment more", both(BRIDGE, [], most + most[:1], second_segments=MOST_SEGMENTS)
+    yield "a line of a segment and no second path", both(FRAME, LEFT, RIGHT[:1], second_segments=0)
+
+
+def second_segments():
+    """Fields of the second path, numbered on from the first's, and those of ages, numbered on from the second's."""
+    for label, segment in (
+        ("segment kind 0", Segment(0, 1024, 0)),
+        ("segment kind 4", Segment(4, 1024, 0)),
+        ("straight, length 0", Segment(STRAIGHT, 0, 0)),
+        ("straight, rise 1", Segment(STRAIGHT, 1024, 1)),
+        ("parabola, length 1023", Segment(PARABOLA, 1023, 0)),
+        ("bend, length 1", Segment(BEND, 1, 0)),
+        ("bend, angle 4097", Segment(BEND, 0, 4097)),
+    ):
+        yield "on the second path: " + label, both(FRAME, LEFT, RIGHT + [segment])
+    wrong = straights(0)
+    yield "straights of length 0 on both paths", both(FRAME, LEFT + wrong, RIGHT + wrong)
+    yield "a straight of length 0, and segment kind 4 on the second path", both(FRAME, wrong, [Segment(4, 1024, 0)])
+    first, second, last = AGES
+    yield "two paths, second age at the first", both(FRAME, LEFT, RIGHT, [first, first, last])
+    yield "two paths, moments over the most", both(FRAME, LEFT, RIGHT, [first, second, last._replace(moment=MOST_MOMENTS + 1)])
+
+
+def second_ducts():
+    """The duct's checks: 4 at 1, 14, 4 at 2 and 15, each before the next."""
+    wobble, over = straight_of(MOST_X + 1)
+    yield "pretensioned with a second path", card(PRE, second=straights(PRE.length))
+    yield "pretensioned with two paths", card(PRE, LEFT, second=RIGHT)
+    yield "pretensioned with a second path, X over the most", both(PRE, [], [over], wobble=wobble)
+    yield "pretensioned with a second path, a tick long", card(PRE, second=straights(1))
+    for x in (MOST_X, MOST_X + 1):
+        curvature, bend = bend_of(x)
+        for label, paths in (
+            ("on the second path", (straights(TICKS), [bend, *straights(TICKS)])),
+            ("on the first path", ([bend, *straights(TICKS)], straights(TICKS))),
+            ("on each path", ([bend, *straights(TICKS)], [bend, *straights(TICKS)])),
+        ):
+            yield "X %d %s" % (x, label), both(BRIDGE, *paths, wobble=0, curvature=curvature)
+    label = "X over the most on the second path, %d ticks long in a tendon of %d"
+    yield label % (over.length, TICKS), card(POST, second=[over], wobble=wobble, length=TICKS)
+
+
+def path_sums():
+    """Two paths as long as the tendon, a foot more and less, and a tick beyond; a tendon with one path may have any length."""
+    whole = path_length(GIRDER)
+    for apart in (MOST_APART, MOST_APART + 1):
+        yield "two paths together %d ticks longer than the tendon" % apart, both(FRAME, LEFT, RIGHT, length=whole - apart)
+        yield "two paths together %d ticks shorter than the tendon" % apart, both(FRAME, LEFT, RIGHT, length=whole + apart)
+    for name, path in (("longer", 2 * GIRDER), ("shorter", GIRDER[:1])):
+        yield "one path, far %s than the tendon" % name, card(FRAME, path, length=whole)
+    yield "each path as long as the tendon", both(FRAME, GIRDER, GIRDER, length=whole)
+    yield "the second path as long as the tendon, the first of bends", both(FRAME, [Segment(BEND, 0, 100)], GIRDER)
+    longest_paths, _ = longest_path()
+    yield "the two longest paths", card(POST, longest_paths, second=longest_paths, length=most_of("length"))
+    narrow = dict(area=field_of("area").least, steel_area=most_of("steel_area"))
+    yield "κ over 2^30, and paths over a foot longer than the tendon", both(FRAME, LEFT, RIGHT, length=whole - 2 * MOST_APART, **narrow)
+
+
+def ties():
+    """The same stress after slip, of a path along which it dies out and of bends, where it goes over the tendon's length. Of a jacking
+    stress of T ticks each X leaves another stress."""
+    base = ANCHORED._replace(jacking_stress=T // TICKS, wobble=20, area=most_of("area"), steel_area=1)
+    along = straights(base.length)
+    (d, _), (_, slip) = seating_losses(base, along), seating_losses(base, [])
+    x = next(x for x in range(d - slip, MOST_X) if stress_left(T, x) == T - (d - slip))
+    curvature, bend = bend_of(x)
+    tied = base._replace(curvature=curvature)
+    for paths in ((along, [bend]), ([bend], along)):
+        yield of_paths("the same stress after slip", tied, *paths)
+
+
+def rules_of_slip():
+    """One path under the old rule of slip and one under that of document 02's W5."""
+    curvature, bend = bend_of(T // 16)
+    base = POST._replace(slip=ANCHORED.slip, curvature=curvature)
+    smooth, bent = straights(100 * TICKS), [bend, *straights(100 * TICKS)]
+    for label, paths in (
+        ("no friction on the first path", (smooth, bent)),
+        ("no friction on the second path", (bent, smooth)),
+        ("no friction on either path", (smooth, smooth)),
+        ("bends alone on the first path", (3 * [bend], 2 * bent)),
+        ("bends alone on the second path", (2 * bent, [bend])),
+    ):
+        yield of_paths(label, base, *paths)
+
+
+def left_behind():
+    """A path with less than the least stress that is left, and one that goes on."""
+    least, x = LEAST_STRESS // TICKS, T
+    wobble, long = straight_of(MOST_X)
+    curvature, bend = bend_of(x)
+    base = POST._replace(wobble=wobble, curvature=curvature, jacking_stress=least_jacking_stress(MOST_X) - 1)
+    yield "stress under %d psi on the first path, which is left" % least, both(base, [long], [bend], SOON)
+    yield "stress under %d psi on the second path, which is left" % least, both(base, [bend], [long], SOON)
+    enough = least_jacking_stress(x)
+    yield "stress under %d psi on both paths" % least, both(base, [long], [bend], jacking_stress=enough - 1, **UNLOADED)
+    label = "%d psi left on the second path alone, not by the first age" % least
+    yield label, both(base, [long], [bend], jacking_stress=enough, **UNLOADED)
+    curvature, bend = bend_of(13 * T // 20)
+    base = FRAME._replace(wobble=0, curvature=curvature)
+    yield of_paths("slip larger than the stress on the first path", base, [bend, bend], [bend, *straights(10 * TICKS)])
+
+
+def sets_of_two():
+    """12 of either path, also of one that would be left, ahead of any 7; with one path 7 by friction comes first."""
+    least, x, half = LEAST_STRESS // TICKS, T // 8, 5 * TICKS
+    weak, too_long = least_jacking_stress(x) - 1, "affected length over that of the tendon"
+    curvature, bend = bend_of(x)
+    base, bent = ANCHORED._replace(curvature=curvature), [bend, *straights(half)]
+    for label, paths in (
+        ("%s on the first path", (2 * bent, [bend])),
+        ("%s on the second path", ([bend], 2 * bent)),
+        ("%s on the second path, which alone has segments", ([], 2 * bent)),
+        ("%s on both paths", (bent, bent)),
+    ):
+        yield label % too_long, both(base, *paths)
+        yield label % too_long + ", stress under %d psi by friction" % least, both(base, *paths, jacking_stress=weak)
+    yield "the same on one path", card(base, 2 * bent, jacking_stress=weak, length=2 * half)
+    creeping = creep_edge(CREEPING, 1)._replace(slip=base.slip, curvature=curvature)
+    yield "U·κ least above 2^56, %s on both paths" % too_long, both(creeping, bent, bent)
+    reached, path = anchored(ANCHORED, T // 16, 100 * TICKS)
+    over = reaching(reached, path, 2 * friction_loss(reached, path) + 1)
+    for label, head in (("that of the tendon", less_es(over)), ("over that of the tendon by less than a tick", over)):
+        yield "affected length of the second path " + label, both(head, path[:1], path)
+
+
 PARTS = (
     ranges, counts, codes, segments, moments, hours, duct, section_and_creep, stress, long_cards, shape, gains, blank_slips, long_ducts,
     anchored_girder, old_slips, whole_root, path_lengths, tick_of_friction, affected_lengths, refusals_at_slip, too_many_ages,
-    gauges_apart,
+    gauges_apart, both_ends, second_counts, second_segments, second_ducts, path_sums, ties, rules_of_slip, left_behind, sets_of_two,
 )
 
 

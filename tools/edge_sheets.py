@@ -1,4 +1,4 @@
-"""The elongation sheets at the edges of document 02's W7, each with what it is, its numbers of room and its card.
+"""The elongation sheets at the edges of document 02's W7 and W9, each with what it is, its numbers of room and its card.
 
 A case more goes to the end, so that the others keep their lines.
 """
@@ -6,7 +6,8 @@ from fractions import Fraction
 from math import floor
 
 from edge_cards import (
-    AGES, ANCHORED, BRIDGE, CREEPING, GIRDER, LIFTED, POST, PRE, card, creep_edge, last_line_missing, longest_path, without_and_with_bend,
+    AGES, ANCHORED, BRIDGE, CREEPING, FRAME, GIRDER, LEFT, LIFTED, POST, PRE, RIGHT, both, card, creep_edge, last_line_missing,
+    longest_path, straights, without_and_with_bend,
 )
 from paper import (
     BEND, LEAST_STRESS, MOST_MOMENTS, MOST_SEGMENTS, MOST_X, SEGMENT_RANGES, STRAIGHT, T, TICKS, Segment, card_rows, field_of, friction,
@@ -88,10 +89,6 @@ def refused_by_the_losses():
         yield "refused by the losses with %d at %d" % refusal, past(GIRDER), text
 
 
-def straights(*lengths):
-    return [Segment(STRAIGHT, length, 0) for length in lengths]
-
-
 def rounding():
     for label, path in (
         ("elongation 1.5", straights(25)),
@@ -107,7 +104,7 @@ def parted(head, mean):
     _, longest, _ = SEGMENT_RANGES[STRAIGHT]
     for length in range(longest, 0, -1):
         path = straights(length)
-        (elongation,), _ = sheet(head, path, AGES)
+        (elongation,), _ = sheet(head, path, [], AGES)
         if floor(mean(head, path) * inches(length) / head.es) != elongation:
             return path
     raise SystemExit("no straight has another elongation")
@@ -130,7 +127,32 @@ def means():
         yield "another elongation by " + label, past(path), card(wobbling, path)
 
 
-PARTS = (bends, extremes, rooms, duct, pretensioned, refused_by_the_losses, rounding, means)
+def first_path_alone():
+    """What the second path has is of the shape, the codes, the ranges and the hours; 4, 15 and the room do not look at it."""
+    for label, first, second in (("from the left", LEFT, RIGHT), ("from the right", RIGHT, LEFT), ("without a first path", [], GIRDER)):
+        yield "jacked at both ends, " + label, past(first), both(FRAME, first, second)
+    long, short = GIRDER, GIRDER[:1]
+    for room in (len(short) - 1, len(short)):
+        label = "room for %d numbers, %d segments on the first path and %d on the second"
+        yield label % (room, len(short), len(long)), room, both(FRAME, short, long)
+    yield "X over the most on the second path", past(LEFT), both(FRAME, LEFT, TOO_LONG, **WOBBLING)
+    yield "X over the most on the first path", past(TOO_LONG), both(FRAME, TOO_LONG, LEFT, **WOBBLING)
+    yield "paths over a foot longer than the tendon", past(LEFT), both(FRAME, LEFT, RIGHT, length=path_length(LEFT))
+    yield "slip that reaches beyond the tendon on both paths", past(LEFT), both(ANCHORED, LEFT, straights(TICKS), wobble=1)
+    first, second, last = AGES
+    for label, text in (
+        ("segment kind 4", both(FRAME, LEFT, [Segment(4, TICKS, 0)])),
+        ("a straight of length 0", both(FRAME, LEFT, straights(0))),
+        ("second age at the first", both(FRAME, LEFT, RIGHT, [first, first, last])),
+        ("%d segments" % (MOST_SEGMENTS + 1), both(FRAME, LEFT, (MOST_SEGMENTS + 1) * straights(TICKS))),
+        ("last line missing", last_line_missing(both(FRAME, LEFT, RIGHT))),
+    ):
+        yield "on the second path or behind it: " + label, past(LEFT), text
+    for label, first, second in (("a second path", [], TOO_LONG), ("two paths", LEFT, TOO_LONG)):
+        yield "pretensioned with %s, X over the most" % label, past(first), card(PRE, first, second=second, **WOBBLING)
+
+
+PARTS = (bends, extremes, rooms, duct, pretensioned, refused_by_the_losses, rounding, means, first_path_alone)
 
 
 def cases():

@@ -16,11 +16,11 @@ DOCUMENT = (ROOT / "docs" / "EXAMPLES.md").read_text()
 CARDS = (
     "double_tee double_tee_fpy_230 double_tee_after_transfer slab slab_as_printed slab_cured_seven_days slab_shrinkage "
     "slab_fpy_235 slab_friction box_girder_b box_girder_c box_girder_d box_girder_e box_girder_f box_girder_g "
-    "box_girder_seated_b box_girder_seated_c simple_span_b simple_span_c"
+    "box_girder_seated_b box_girder_seated_c simple_span_b simple_span_c four_spans"
 ).split()
 
 # The cards whose elongation sheets stand behind all answers.
-SHEETS = ("box_girder_g", "simple_span_c", "simple_span_one_mean")
+SHEETS = ("box_girder_g", "simple_span_c", "simple_span_one_mean", "four_spans")
 
 # The line of an answer before the ages; the ages' lines follow, numbered from 1.
 BEFORE = 0
@@ -186,7 +186,7 @@ def compare_friction(checks, answers):
     heading = "Document 002, example 1: friction"
     for point, document_x, x_cell, document_stress, stress_cell, differs_cell in table(heading):
         name, where = "box_girder_" + point.lower(), "%s, %s: " % (heading, point)
-        head, segments, _ = paper.read_card(card_bytes(name))
+        head, segments, *_ = paper.read_card(card_bytes(name))
         in_units = paper.friction(head.wobble, head.curvature, segments)
         x, factor = in_units / paper.T, paper.friction_factor(in_units) / paper.T
         stress = (head.jacking_stress - psi(answers[name], BEFORE, "friction")) / 1000
@@ -217,7 +217,7 @@ class Seating(NamedTuple):
 
 def seating(answers, name):
     """The anchor set of a card. An answer has friction and drop at the section alone: the drop at the jack is worked out from the card."""
-    head, segments, _ = paper.read_card(card_bytes(name))
+    head, segments, *_ = paper.read_card(card_bytes(name))
     friction, drop = answers[name][BEFORE].friction, answers[name][BEFORE].slip
     path = paper.inches(paper.path_length(segments))
     drop_at_jack = paper.drop_at_jack(head, friction, path)
@@ -266,6 +266,31 @@ def elongations(sheet, segments=(), by=""):
     return [(quantity, ticks / paper.TICKS) for quantity, ticks in of_segments + of_all]
 
 
+def both_ends(answers, sheets, name):
+    """The core's number of each quantity of a tendon jacked at both ends, the stress in ksi and the elongation in inches. An answer has the
+    friction of one path alone: the coefficients are worked out from the card."""
+    head, *paths, _ = paper.read_card(card_bytes(name))
+    jacked = head.jacking_stress * paper.TICKS
+    left, right = (1 - paper.friction_loss(head, path) / jacked for path in paths)
+    losses = psi(answers[name], BEFORE, "friction") + psi(answers[name], BEFORE, "slip")
+    return [
+        ("coefficient at 416 feet from the left end", left),
+        ("coefficient at 402 feet from the right end", right),
+        ("stress at the point of no movement", (head.jacking_stress - losses) / 1000),
+        ("elongation from the left end, without the strand in the jack", sheets[name][-1].sum / paper.TICKS),
+    ]
+
+
+def four_spans():
+    """What document 002's example 4 does not print: the stress by its coefficient; and by its factors the elongation of area A, without the
+    three feet of strand in the jack."""
+    coefficient, jacked, mean_force, feet, area, es = 0.802, 202.5, 27.91, 416, 0.153, 28500
+    return {
+        "stress at the point of no movement": coefficient * jacked,
+        "elongation from the left end, without the strand in the jack": mean_force * feet * paper.FOOT / (area * es),
+    }
+
+
 def compare_core(checks, heading, quantities, worked_out={}):
     """A table of document 002: the document's number, printed or worked out from those that are, the core's, and the tolerance."""
     rows = table(heading)
@@ -306,3 +331,4 @@ def compare_all(checks, answers, sheets):
     compare_core(checks, "Document 002, example 3: anchor set", seatings(answers, SIMPLE_SPAN))
     by_one_mean = elongations(sheets["simple_span_one_mean"], by=", by one mean")
     compare_core(checks, "Document 002, example 3: elongation", by_one_mean + elongations(sheets["simple_span_c"]))
+    compare_core(checks, "Document 002, example 4", both_ends(answers, sheets, "four_spans"), four_spans())

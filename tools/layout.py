@@ -16,6 +16,11 @@ def double_of(word):
     return struct.unpack(">d", bytes.fromhex(word))[0]
 
 
+def word_of(double):
+    """The 16 hexadecimal digits of a double's bits."""
+    return struct.pack(">d", double).hex()
+
+
 def in_units(field, number):
     """A field's number as a list has it."""
     return number / paper.TICKS if field.ticks else float(number)
@@ -25,7 +30,7 @@ def in_units(field, number):
 
 
 def card_of(head, *body):
-    """The card of a head and what follows it, part by part: segments, ages."""
+    """The card of a head and what follows it, part by part: the segments of the first path, those of the second, ages."""
     lines = [[getattr(head, field.name) for field in line] for line in paper.LINES]
     text = ["".join("%*s" % (COLUMNS, number) for number in line) for line in sum(map(list, body), lines)]
     return "".join(line + "\n" for line in text).encode()
@@ -99,7 +104,7 @@ class StoredList:
         return parts
 
     def part(self, field, number):
-        return struct.pack(">d", in_units(field, number)).hex()
+        return word_of(in_units(field, number))
 
     def count(self, part):
         double = double_of(part)

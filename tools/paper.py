@@ -36,6 +36,7 @@ MOST_X = 3 * T // 2  # 1.5 T, of document 02's W3
 MOST_KAPPA = 2**30
 MOST_CREEP = 2**56
 LEAST_STRESS = 1000 * TICKS
+MOST_APART = TICKS  # a foot, of document 02's W9
 MOST_CURING_IF_MOIST = 168
 LEAST_TRANSFER = {MOIST: 72, ACCELERATED: 1}
 MOST_TRANSFER = 960
@@ -100,13 +101,14 @@ LINES = (
         Field("curvature", 0, 400000),
         Field("segments", 0, 64),
         Field("ages", 3, 48),  # of document 02's W6
+        Field("second_segments", 0, 64, older=0),  # of document 02's W9
     ),
 )
 SEGMENT = (Field("kind", codes=(STRAIGHT, PARABOLA, BEND)), Field("length", ticks=True), Field("rise", ticks=True))
 AGE = (Field("hour"), Field("moment", ticks=True))
 
 # The lines behind the head, in their order: the field that counts them, and the fields of each.
-BODY = {"segments": SEGMENT, "ages": AGE}
+BODY = {"segments": SEGMENT, "second_segments": SEGMENT, "ages": AGE}
 
 # A segment's ranges: the least and the most length, and the most rise, for a bend the most angle.
 SEGMENT_RANGES = {STRAIGHT: (1, 2097152, 0), PARABOLA: (1024, 2097152, 65536), BEND: (0, 0, 4096)}
@@ -160,12 +162,12 @@ def number_in(fields, name):
 
 
 def number_in_segment(segment, name):
-    """The number of a field of a segment, the first segment being 0."""
+    """The number of a field of a segment, the first path's first segment being 0; the second path's count on."""
     return len(HEAD) + len(SEGMENT) * segment + number_in(SEGMENT, name)
 
 
 def number_in_age(segments, age, name):
-    """The number of a field of an age behind so many segments, the first age being 0."""
+    """The number of a field of an age behind so many segments of both paths, the first age being 0."""
     return len(HEAD) + len(SEGMENT) * segments + len(AGE) * age + number_in(AGE, name)
 
 
@@ -186,6 +188,8 @@ class Refusal(IntEnum):
     OVERSTRESS = 11
     ANCHOR_SET = 12
     PRETENSIONED = 13
+    SECOND_PATH = 14
+    PATH_LENGTHS = 15
 
 
 ACCEPTED = (0, 0)
@@ -260,14 +264,14 @@ def whole_shrinkage(head):
     return ush(head.concrete, head.ec) * size_factor(SSF, head.volume_to_surface) // 10**8
 
 
-# The card and the list of doubles: each is read as a head, segments and ages
+# The card and the list of doubles: each is read as a head, the segments of two paths, and ages
 
 
 def member_of(numbers):
-    """The head, the segments and the ages whose fields these are."""
+    """The head, the segments of the first path and of the second, and the ages whose fields these are."""
     head, rest = Head(*numbers[: len(HEAD)]), iter(numbers[len(HEAD) :])
     records = lambda kind, count: [kind(*islice(rest, len(kind._fields))) for _ in range(count)]
-    return head, records(Segment, head.segments), records(Age, head.ages)
+    return head, records(Segment, head.segments), records(Segment, head.second_segments), records(Age, head.ages)
 
 
 def field_of_card(columns, field):
@@ -363,6 +367,7 @@ def check_hours(head, segments, ages):
 
 
 def check_to_hours(head, segments, ages):
+    """The rows of codes, ranges and hours; the segments are those of both paths, one behind the other, as their fields are numbered."""
     check_codes(head, segments)
     check_ranges(head, segments, ages)
     check_hours(head, segments, ages)
@@ -380,9 +385,17 @@ def friction(wobble, curvature, segments):
     return x
 
 
-def check_duct(head, segments):
-    check(head.kind == POST_TENSIONED or not segments, Refusal.DUCT, 1)
+def check_friction(head, segments):
     check(friction(head.wobble, head.curvature, segments) <= MOST_X, Refusal.DUCT, 2)
+
+
+def check_duct(head, first, second):
+    check(head.kind == POST_TENSIONED or not first, Refusal.DUCT, 1)
+    check(head.kind == POST_TENSIONED or not second, Refusal.SECOND_PATH, 2)
+    for path in (first, second):
+        check_friction(head, path)
+    apart = abs(path_length(first) + path_length(second) - head.length)
+    check(not second or apart <= MOST_APART, Refusal.PATH_LENGTHS, NUMBER["length"])
 
 
 def friction_factor(x):
@@ -437,10 +450,22 @@ def slip_loss(head, d, segments):
     return max(0, drop - 2 * d)
 
 
-def run(head, segments, ages, report_room=MOST_REPORT_ROOM, scratch_room=MOST_SCRATCH_ROOM):
+def seating_losses(head, segments):
+    """What friction and slip take along a path by itself, from the jacking stress."""
+    d = friction_loss(head, segments)
+    return d, slip_loss(head, d, segments)
+
+
+def path_that_goes_on(head, first, second):
+    """The path with the larger stress after friction and slip, the first if they are equal (document 02, W9). Where there are two, 12 looks
+    at both here, ahead of any 7."""
+    return min(first, second, key=lambda path: sum(seating_losses(head, path))) if second else first
+
+
+def run(head, first, second, ages, report_room=MOST_REPORT_ROOM, scratch_room=MOST_SCRATCH_ROOM):
     """The losses and the stress before the ages, and each age's line; rooms are in numbers."""
-    check_to_hours(head, segments, ages)
-    check_duct(head, segments)
+    check_to_hours(head, first + second, ages)
+    check_duct(head, first, second)
     check(report_room >= REPORT_NUMBERS_OF_AGE * len(ages), Refusal.BUFFER, 1)
     check(scratch_room >= SCRATCH_NUMBERS_OF_AGE * len(ages), Refusal.BUFFER, 2)
     kappa = head.steel_area * 2**32 // head.area + 4096 * head.steel_area * head.eccentricity**2 // head.inertia
@@ -471,10 +496,10 @@ def run(head, segments, ages, report_room=MOST_REPORT_ROOM, scratch_room=MOST_SC
     start, moments = readings(head.transfer), head.own_weight_moment
     _, _, early_logs = start
     jacked = stress = head.jacking_stress * TICKS
-    losses = []
+    path, losses = path_that_goes_on(head, first, second), []
     for loss in (
-        lambda stress: friction_loss(head, segments),
-        lambda stress: slip_loss(head, jacked - stress, segments),
+        lambda stress: friction_loss(head, path),
+        lambda stress: slip_loss(head, jacked - stress, path),
         lambda stress: head.deflector_loss * TICKS,
         lambda stress: relax(stress, early_logs) if head.kind == PRETENSIONED else 0,
         lambda stress: head.es * concrete(stress, moments) // (head.eci + head.es * kappa // 2**32),
@@ -500,15 +525,16 @@ def run(head, segments, ages, report_room=MOST_REPORT_ROOM, scratch_room=MOST_SC
     return before, lines
 
 
-def sheet(head, segments, ages, room=MOST_SEGMENTS):
-    """Document 02's W7: each segment's elongation, and their sum with its measurable part, in ticks of inch; the room is in numbers."""
-    check_to_hours(head, segments, ages)
+def sheet(head, first, second, ages, room=MOST_SEGMENTS):
+    """Document 02's W7: each segment's elongation, and their sum with its measurable part, in ticks of inch; the room is in numbers.
+    It "keeps to the first path, for its check 4 too" (W9)."""
+    check_to_hours(head, first + second, ages)
     check(head.kind == POST_TENSIONED, Refusal.PRETENSIONED, 1)
-    check_duct(head, segments)
-    check(room >= len(segments), Refusal.BUFFER, 1)
-    stresses = stresses_along(head, segments)
+    check_friction(head, first)
+    check(room >= len(first), Refusal.BUFFER, 1)
+    stresses = stresses_along(head, first)
     means = [Fraction(before + after, 2) for before, after in zip(stresses, stresses[1:])]
-    elongations = [floor(mean * inches(segment.length) / head.es) for mean, segment in zip(means, segments)]
+    elongations = [floor(mean * inches(segment.length) / head.es) for mean, segment in zip(means, first)]
     return elongations, Total(sum(elongations), floor(MEASURABLE * sum(elongations)))
 
 

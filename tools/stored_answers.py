@@ -7,7 +7,7 @@ the sample, crates/report/stdin, and the card of crates/sheet/stdin, which is on
 part of the text that its program must print. How many cards the program `cases` runs is written into its code.
 The stored lists: a line of crates/cases/data/lists.txt for each, in four parts: numbers of room in report and scratch; the doubles, each
 as the 16 hexadecimal digits of its bits; number and place; and of an accepted list, in hexadecimal, the numbers before the ages, the bits
-of the last stress as a double, and each age's row.
+of the last stress as a double, and each age's row. Those from line 317 on are built by tools/edge_lists.py.
 The stored sheets: a line of crates/cases/data/sheets.txt for each, in four parts: numbers of room; the card's bytes in hexadecimal; number
 and place; and of an accepted card, in hexadecimal, each segment's elongation, the sum and the measurable part. Those from line 204 on are
 built by tools/edge_sheets.py.
@@ -21,6 +21,7 @@ from pathlib import Path
 
 import c_hosts
 import edge_cards
+import edge_lists
 import edge_sheets
 import examples
 import layout
@@ -34,13 +35,16 @@ CARDS = CASES / "data" / "cards"
 COUNT_OF_CARDS = CASES / "src" / "cards.rt"
 EDGES = CASES / "data" / "edges.txt"
 LISTS = CASES / "data" / "lists.txt"
+EDGE_LISTS = CASES / "data" / "edge_lists.txt"
 SHEETS = CASES / "data" / "sheets.txt"
 EDGE_SHEETS = CASES / "data" / "edge_sheets.txt"
 REPORT = ROOT / "crates" / "report"
 SHEET = ROOT / "crates" / "sheet"
 
-# The first card that is built by tools/edge_cards.py, and the first line of sheets.txt that is by tools/edge_sheets.py.
+# The first card that is built by tools/edge_cards.py, the first line of lists.txt that is by tools/edge_lists.py, and the first line of
+# sheets.txt that is by tools/edge_sheets.py.
 FIRST_EDGE = 240
+FIRST_EDGE_LIST = 317
 FIRST_EDGE_SHEET = 204
 
 # The card of the sheet program's own test.
@@ -58,8 +62,8 @@ def given_cards():
 
 
 def relaid_lists(stored):
-    """The rooms and the doubles of each stored list, in the table's layout."""
-    for line in LISTS.read_text().splitlines():
+    """The rooms and the doubles of each stored list that is not built, in the table's layout."""
+    for line in LISTS.read_text().splitlines()[: FIRST_EDGE_LIST - 1]:
         rooms, words, *_ = (part.split() for part in line.split("|"))
         yield layout.relaid_rooms([int(room) for room in rooms], words, stored), layout.relaid_list(words, stored)
 
@@ -146,13 +150,15 @@ def hold_cases(checks):
         checks.file(card.with_suffix(".out"), answer.encode())
         printed += answer
     now = layout.described()
-    built = edge_sheets.cases()
+    built_lists, built_sheets = edge_lists.cases(), edge_sheets.cases()
     lists = [list_texts(*case) for case in relaid_lists(now)]
-    sheets = [sheet_texts(*case) for case in relaid_sheets(now)] + [sheet_texts(room, card) for _, room, card in built]
+    lists += [list_texts(rooms, list(map(layout.word_of, doubles))) for _, rooms, doubles in built_lists]
+    sheets = [sheet_texts(*case) for case in relaid_sheets(now)] + [sheet_texts(room, card) for _, room, card in built_sheets]
     hold_lines(checks, LISTS, lists)
     hold_lines(checks, SHEETS, sheets)
-    labels = ["%d %s\n" % (number, label) for number, (label, _, _) in enumerate(built, FIRST_EDGE_SHEET)]
-    checks.file(EDGE_SHEETS, "".join(labels).encode())
+    for path, first, built in ((EDGE_LISTS, FIRST_EDGE_LIST, built_lists), (EDGE_SHEETS, FIRST_EDGE_SHEET, built_sheets)):
+        labels = ["%d %s\n" % (number, label) for number, (label, _, _) in enumerate(built, first)]
+        checks.file(path, "".join(labels).encode())
     printed += "".join(answer for _, answer in lists + sheets)
     checks.file(CASES / "stdout", printed.encode())
 

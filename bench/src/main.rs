@@ -8,8 +8,8 @@
 mod paper;
 
 use paper::Field::*;
-use paper::{age, in_ticks, lines, read_card, read_list, segment, Field, Member, Paper, Refusal, Run};
-use paper::{BEND, BLANK_SLIP, COLUMNS, HEAD_FIELDS, LIFE, MOST_AGES, MOST_SEGMENTS, PARABOLA, STRAIGHT, TICKS};
+use paper::{age, in_ticks, lines, read_card, read_list, segment, Field, Member, OfSegment, Paper, Refusal, Run};
+use paper::{BEND, BLANK_SLIP, COLUMNS, HEAD_FIELDS, LIFE, MOST_AGES, MOST_SEGMENTS, PARABOLA, SEGMENT_FIELDS, STRAIGHT, TICKS};
 use std::hint::black_box;
 use std::time::Instant;
 use stratelyn::{BYTES_PER_AGE, REPLY_BYTES};
@@ -23,27 +23,50 @@ fn sample() -> Member {
     read_card(include_bytes!("../../crates/report/stdin")).expect("the sample is accepted")
 }
 
-/// A member with the most segments and ages, and a long duct, along which its slip dies out: its X is above T.
-fn large() -> Member {
+/// The segments of a path with as many as there may be, its parabolas so long.
+fn path(parabola: u64) -> Vec<[u64; SEGMENT_FIELDS]> {
+    let kinds = [segment(STRAIGHT, 2048, 0), segment(PARABOLA, parabola, 512), segment(BEND, 0, 10)];
+    kinds.into_iter().cycle().take(MOST_SEGMENTS as usize).collect()
+}
+
+/// A member with the most ages, a first path and perhaps a second, whose slip dies out along them.
+fn post_tensioned(first: &[[u64; SEGMENT_FIELDS]], second: &[[u64; SEGMENT_FIELDS]], length: u64, wobble: u64) -> Member {
     let Member(mut f) = sample();
     f.truncate(HEAD_FIELDS);
     let mut set = |field: Field, number: u64| f[field.at()] = number;
     set(JackingStress, 180_000);
     set(Slip, BLANK_SLIP);
-    set(Length, 2_097_152);
+    set(Length, length);
     set(Inertia, 1 << 26);
     set(Eccentricity, 2048);
     set(OwnWeightMoment, 1 << 20);
-    set(Wobble, 700);
+    set(Wobble, wobble);
     set(Curvature, 350_000);
-    set(Segments, MOST_SEGMENTS);
+    set(Segments, first.len() as u64);
     set(Ages, MOST_AGES);
-    let kinds = [segment(STRAIGHT, 2048, 0), segment(PARABOLA, 65_536, 512), segment(BEND, 0, 10)];
-    f.extend(kinds.iter().cycle().take(MOST_SEGMENTS as usize).flatten());
+    set(SecondSegments, second.len() as u64);
+    f.extend([first, second].concat().as_flattened());
     for i in 0..MOST_AGES {
         f.extend(age(if i + 1 < MOST_AGES { 744 + 100 * i } else { LIFE }, i * 1000 % 7777));
     }
     Member(f)
+}
+
+/// One path with the most segments, and a long duct: its X is above T.
+fn large() -> Member {
+    post_tensioned(&path(65_536), &[], 2_097_152, 700)
+}
+
+/// Two such paths, the most fields that there are, in a tendon as long as both.
+fn largest() -> Member {
+    let path = path(32_768);
+    let length: u64 = path.iter().map(|segment| segment[OfSegment::Length as usize]).sum();
+    post_tensioned(&path, &path, 2 * length, 1000)
+}
+
+/// The members by their names, and how often each runs in a round.
+fn members() -> [(&'static str, Member, u32); 3] {
+    [("sample", sample(), 2000), ("large", large(), 200), ("largest", largest(), 200)]
 }
 
 fn card(member: &Member) -> Vec<u8> {
@@ -102,7 +125,7 @@ fn main() {
     let words: Vec<String> = std::env::args().collect();
     let (mut report, mut scratch, mut reply) = ([0u8; REPORT_BYTES], [0u8; REPORT_BYTES], [0u8; REPLY_BYTES]);
     if words.len() == 5 && words[1] == "count" {
-        let member = if words[3] == "large" { large() } else { sample() };
+        let (_, member, _) = members().into_iter().find(|&(name, ..)| name == words[3]).expect("a member of this name");
         let (entry, input): (Entry, Vec<u8>) =
             if words[2] == "card" { (stratelyn::run_card_bytes, card(&member)) } else { (stratelyn::run_list_bytes, list(&member)) };
         for _ in 0..words[4].parse().expect("how many runs") {
@@ -112,7 +135,7 @@ fn main() {
     }
     let paper = Paper::new();
     println!("{:14}{:>12}{:>16}{:>12}{:>8}", "", "core, ns", "independent, ns", "runs/s", "ratio");
-    for (name, member, runs) in [("sample", sample(), 2000), ("large", large(), 200)] {
+    for (name, member, runs) in members() {
         let (text, bytes) = (card(&member), list(&member));
         for kind in ["card", "list"] {
             let (mut core, mut independent) = (Vec::new(), Vec::new());

@@ -37,6 +37,7 @@ module _ (blank : Option Blank) (front back : List ℕ) (more : most_bytes < len
         let c = counted first.numbers counts counts_are in
         let few = c.few_segments in
         let few_ages = c.few_ages in
+        let few_second = c.few_second in
         omega arith
 
     announced_front : announced blank counts (rest ++ back) ≡ extended back (announced blank counts rest)

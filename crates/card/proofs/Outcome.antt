@@ -1,15 +1,16 @@
 -- What the reader of a card leaves at each of its answers: of the lines of segments and ages, and of the card. Assumes nothing.
 use mathlib.Core.Path.{◌≡◌, refl, sym, ap, ◌∙◌}
 use mathlib.Core.List.{List, ◌++◌}
-use Prim.Native.Nat.{ℕ, ◌-◌, ◌*◌, ◌<◌}
+use Prim.Native.Nat.{ℕ, ◌-◌, ◌*◌, ◌≤◌, ◌<◌}
 use native.Mathlib.Omega.{arith}
 use lib.ListN.{length, get_or, take, drop, replicate, length-append, length-drop, length-replicate, get_or-append}
 use borrow.Rule.Slice.PartMut.{mid_of, put_mid}
 use Rattle.std.proofs.lemmas.List.{take_rest}
 use Rattle.std.specs.Prelude.{Option, Result, Ok, Err}
 use Rattle.fields.specs.declared.read.Counts.{Counts}
-use Rattle.fields.specs.Quantities.{segments_field, ages_field, per_segment, per_age, head_fields}
-use Rattle.fields.specs.Limits.{most_segments, most_ages}
+use Rattle.fields.specs.Quantities.{segments_field, ages_field, second_segments_field, per_segment, per_age, head_fields, all_segments}
+use Rattle.fields.specs.Limits.{most_ages}
+use Rattle.fields.specs.Sizes.{most_counts}
 use Rattle.fields.specs.declared.refusal.Refusal.{Refusal}
 use Rattle.fields.specs.Outcomes.{OrRefusal, Outcome, refused, accepted, over}
 use Rattle.fields.proofs.Buffers.{length_over, written_behind}
@@ -31,32 +32,35 @@ pub record AnnouncedRead (counts : Counts) (unread : Unread) (was now : List ℕ
 
 -- the lines' fields, as the code has them
 abbrev segment_lines : Counts → List ℕ
-segment_lines counts = take counts.segments (replicate most_segments per_segment)
+segment_lines counts = take (all_segments counts) (replicate (all_segments most_counts) per_segment)
 
 abbrev age_lines : Counts → List ℕ
 age_lines counts = take counts.ages (replicate most_ages per_age)
 
 module _ {counts : Counts} {old : Unread} {was : List ℕ} (fit : AnnouncedFit counts old was) where
   abbrev segments : List ℕ
-  segments = replicate counts.segments per_segment
+  segments = replicate (all_segments counts) per_segment
 
   abbrev ages : List ℕ
   ages = replicate counts.ages per_age
 
+  few_segments : all_segments counts ≤ all_segments most_counts
+  few_segments = let few = fit.segments_most in let few_second = fit.second_most in omega arith
+
   segments_are : segment_lines counts ≡ segments
-  segments_are = take_replicate counts.segments most_segments per_segment fit.segments_most
+  segments_are = take_replicate (all_segments counts) (all_segments most_counts) per_segment few_segments
 
   ages_are : age_lines counts ≡ ages
   ages_are = take_replicate counts.ages most_ages per_age fit.ages_most
 
   pub segments_fit : LinesFit (segment_lines counts) old was
   segments_fit =
-      let fields = fields_replicate counts.segments per_segment in
-      let lines = length-replicate counts.segments per_segment in
+      let fields = fields_replicate (all_segments counts) per_segment in
+      let lines = length-replicate (all_segments counts) per_segment in
       let line = fit.line in
       let field = fit.field in
       let room = fit.room in
-      let most = fit.segments_most in
+      let most = few_segments in
       rw segments_are (record { room = omega arith; numbered = omega arith; lines_numbered = omega arith })
 
   all_from : announced old.blank counts old.bytes.now ≡ lines_from old (segments ++ ages)
@@ -73,10 +77,10 @@ module _ {counts : Counts} {old : Unread} {was : List ℕ} (fit : AnnouncedFit c
       there_is = rw segments_are at there
 
       abbrev read_numbers : ℕ
-      read_numbers = per_segment * counts.segments
+      read_numbers = per_segment * all_segments counts
 
       numbers_long : read_numbers ≡ length (lines_from old segments).numbers
-      numbers_long = sym ((right_there there_is).read ∙ fields_replicate counts.segments per_segment)
+      numbers_long = sym ((right_there there_is).read ∙ fields_replicate (all_segments counts) per_segment)
 
       after_long : length after ≡ length was
       after_long =
@@ -90,13 +94,13 @@ module _ {counts : Counts} {old : Unread} {was : List ℕ} (fit : AnnouncedFit c
           let lines = length-replicate counts.ages per_age in
           let field = there_is.field in
           let line = there_is.line in
-          let before = fields_replicate counts.segments per_segment in
-          let lines_before = length-replicate counts.segments per_segment in
+          let before = fields_replicate (all_segments counts) per_segment in
+          let lines_before = length-replicate (all_segments counts) per_segment in
           let first_line = fit.line in
           let first_field = fit.field in
           let room = fit.room in
           let same = after_long in
-          let few = fit.segments_most in
+          let few = few_segments in
           let few_ages = fit.ages_most in
           rw (ages_are, take_rest after read_numbers)
           (record { room = simp length-drop (omega arith); numbered = omega arith; lines_numbered = omega arith })
@@ -129,7 +133,7 @@ module _ {counts : Counts} {old : Unread} {was : List ℕ} (fit : AnnouncedFit c
         ends {new = new} then e =
             let behind = goes_on there_is (rw ages_are at then) in
             let lines = length-append segments ages in
-            let of_segments = length-replicate counts.segments per_segment in
+            let of_segments = length-replicate (all_segments counts) per_segment in
             let of_ages = length-replicate counts.ages per_age in
             let line = behind.line in
             let first_line = fit.line in
@@ -193,7 +197,13 @@ module _ {blank : Option Blank} {card was : List ℕ} {start mid : Unread} {fiel
         rw first.fields_after (get_or-append (head blank card).numbers _ 0 k (let n = head_right.read in omega arith))
 
     counts_are : counts_in fields ≡ counts_in (head blank card).numbers
-    counts_are = rw (number_is (segments_field - 1) (omega arith), number_is (ages_field - 1) (omega arith)) refl
+    counts_are =
+        rw (
+          number_is (segments_field - 1) (omega arith),
+          number_is (ages_field - 1) (omega arith),
+          number_is (second_segments_field - 1) (omega arith),
+        )
+        refl
 
     pub counts_refused : (refusal : Refusal) → Err refusal ≡ counts_in fields → CardRead blank card was fields (Err refusal)
     unfolding outcome_of
@@ -225,7 +235,7 @@ module _ {blank : Option Blank} {card was : List ℕ} {start mid : Unread} {fiel
       ended_is : ended_by ≡ ended (line_behind counts) more.rest
       ended_is = rw same_blank at second.value
 
-      outcome_is : outcome_of blank card ≡ unless_refused (shape ended_by) all (λ _. accepted counts.segments counts.ages all)
+      outcome_is : outcome_of blank card ≡ unless_refused (shape ended_by) all (λ _. accepted counts all)
       unfolding outcome_of
       outcome_is = let counts_here = sym counts_are ∙ sym counted in rw (there.rest, counts_here, ended_is) refl
 
@@ -233,4 +243,4 @@ module _ {blank : Option Blank} {card was : List ℕ} {start mid : Unread} {fiel
       announced_wrong refusal e = by blank card was buffer_whole (refused refusal all) (outcome_is ∙ rw (sym e) refl) buffer_is_whole
 
       pub all_read : Ok tt ≡ shape ended_by → CardRead blank card was buffer_whole (Ok counts)
-      all_read e = by blank card was buffer_whole (accepted counts.segments counts.ages all) (outcome_is ∙ rw (sym e) refl) buffer_is_whole
+      all_read e = by blank card was buffer_whole (accepted counts all) (outcome_is ∙ rw (sym e) refl) buffer_is_whole

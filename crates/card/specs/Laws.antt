@@ -1,45 +1,44 @@
 -- It serves the code alone. The law of the card's reader, which later crates use of a card's outcome in place of its definition, and how
--- long an accepted card can be: counts within their limits, a number for each field, the counts in fields 23 and 24, numbers of at most
+-- long an accepted card can be: counts within their limits, a number for each field, the counts in fields 23 to 25, numbers of at most
 -- 14 digits, and no more bytes than the longest good card. What is accepted went through each part of the outcome. Assumes nothing.
 use mathlib.Core.Path.{◌≡◌, refl, ap, ◌∙◌}
-use mathlib.Core.Bool.{Bool, true, false, cond}
 use mathlib.Core.List.{List, [], ◌∷◌, ◌++◌}
 use Prim.Native.Nat.{ℕ, ◌+◌, ◌-◌, ◌*◌, ◌≤◌}
 use native.Mathlib.Omega.{arith}
-use lib.Dec.{ltb, lit<}
-use lib.ListN.{length, replicate, length-append, length-drop, get_or-append}
-use borrow.Author.Tests.{ltb-false}
+use lib.Dec.{lit<}
+use lib.ListN.{length, get_or, replicate, length-append, length-drop, get_or-append}
 use Rattle.std.specs.Prelude.{Option, Result, Ok, Err}
 use Rattle.fields.specs.declared.read.Counts.{Counts}
-use Rattle.fields.specs.declared.refusal.Refusal.{Refusal}
-use Rattle.fields.specs.Quantities.{segments_field, ages_field, per_segment, per_age, head_fields, first_segment_field}
-use Rattle.fields.specs.Limits.{blank_slip, most_segments, least_ages, most_ages, ages_out_of_range}
+use Rattle.fields.specs.Quantities.{segments_field, ages_field, second_segments_field, head_fields, first_segment_field}
+use Rattle.fields.specs.Quantities.{per_segment, per_age, all_segments}
+use Rattle.fields.specs.Limits.{blank_slip, most_segments, least_ages, most_ages, segment_counts, age_counts}
 use Rattle.fields.specs.Outcomes.{OrRefusal, Outcome, accepted}
 use Rattle.fields.specs.Readable.{AcceptedIfRead}
-use Rattle.fields.proofs.Laws.{ages_in_range}
+use Rattle.fields.proofs.Laws.{counted_within}
+use Rattle.fields.proofs.Onward.{through}
 use Rattle.line.specs.declared.Blank.{Blank}
 use Rattle.line.specs.Lines.{Lines, line_length, ended}
 use Rattle.line.specs.Conditions.{fields_on, bytes_on}
 use Rattle.line.proofs.Laws.{append_small, BlankSmall, blank_small, lines_small}
 use Rattle.line.proofs.LineByLine.{Right, lines_right, fields_append, bytes_append, fields_replicate, bytes_replicate}
 use Rattle.card.specs.Card.{slip_may_be_blank, head_lines, head, first_segment_line, announced_lines, announced, line_behind}
-use Rattle.card.specs.Card.{segments_in, ages_in, counts_in, shape, unless_refused, ending, outcome_of, card_outcome}
+use Rattle.card.specs.Card.{count_in, counts_in, shape, unless_refused, ending, outcome_of, card_outcome}
 use Rattle.card.specs.Conditions.{most_bytes}
 
 -- ---- the lines that are announced
 
-pub announced_fields : (counts : Counts) → fields_on (announced_lines counts) ≡ per_segment * counts.segments + per_age * counts.ages
+pub announced_fields : (counts : Counts) → fields_on (announced_lines counts) ≡ per_segment * all_segments counts + per_age * counts.ages
 announced_fields counts =
-    let both = fields_append (replicate counts.segments per_segment) (replicate counts.ages per_age) in
-    let s = fields_replicate counts.segments per_segment in
+    let both = fields_append (replicate (all_segments counts) per_segment) (replicate counts.ages per_age) in
+    let s = fields_replicate (all_segments counts) per_segment in
     let a = fields_replicate counts.ages per_age in
     omega arith
 
 pub announced_bytes : (counts : Counts)
-    → bytes_on (announced_lines counts) ≡ line_length per_segment * counts.segments + line_length per_age * counts.ages
+    → bytes_on (announced_lines counts) ≡ line_length per_segment * all_segments counts + line_length per_age * counts.ages
 announced_bytes counts =
-    let both = bytes_append (replicate counts.segments per_segment) (replicate counts.ages per_age) in
-    let s = bytes_replicate counts.segments per_segment in
+    let both = bytes_append (replicate (all_segments counts) per_segment) (replicate counts.ages per_age) in
+    let s = bytes_replicate (all_segments counts) per_segment in
     let a = bytes_replicate counts.ages per_age in
     omega arith
 
@@ -51,35 +50,37 @@ right (Err line) e = absurd (let z : ⊥ = cc in z)
 
 -- ---- the counts, in their ranges
 
+ok_counts : (counts other : Counts) → ◌≡◌ {A = OrRefusal Counts} (Ok counts) (Ok other) → counts ≡ other
+ok_counts counts other e = cc
+
 pub record Counted (numbers : List ℕ) (counts : Counts) : Type 0 where
   pub few_segments : counts.segments ≤ most_segments
   pub enough_ages : least_ages ≤ counts.ages
   pub few_ages : counts.ages ≤ most_ages
-  pub segments_are : segments_in numbers ≡ counts.segments
-  pub ages_are : ages_in numbers ≡ counts.ages
+  pub few_second : counts.second_segments ≤ most_segments
+  pub segments_are : get_or numbers (segments_field - 1) 0 ≡ counts.segments
+  pub ages_are : get_or numbers (ages_field - 1) 0 ≡ counts.ages
+  pub second_are : get_or numbers (second_segments_field - 1) 0 ≡ counts.second_segments
 
 pub counted : (numbers : List ℕ) (counts : Counts) → counts_in numbers ≡ Ok counts → Counted numbers counts
-counted numbers counts = by_tests (ltb most_segments (segments_in numbers)) (ages_out_of_range (ages_in numbers)) refl refl
-  where
-    by_tests : (many out : Bool) → ltb most_segments (segments_in numbers) ≡ many → ages_out_of_range (ages_in numbers) ≡ out
-        → cond many (Err (Refusal.Ranges segments_field)) (cond out (Err (Refusal.Ranges ages_field))
-        (Ok (record { segments = segments_in numbers; ages = ages_in numbers }))) ≡ Ok counts
-        → Counted numbers counts
-    by_tests true out s a e = absurd (let z : ⊥ = cc in z)
-    by_tests false true s a e = absurd (let z : ⊥ = cc in z)
-    by_tests false false s a e =
-        let same : record { segments = segments_in numbers; ages = ages_in numbers } ≡ counts = cc in
-        let segments_are : segments_in numbers ≡ counts.segments = ap (λ (c : Counts). c.segments) same in
-        let ages_are : ages_in numbers ≡ counts.ages = ap (λ (c : Counts). c.ages) same in
-        let few = ltb-false most_segments (segments_in numbers) s in
-        let range = ages_in_range (ages_in numbers) a in
-        record {
-          few_segments = omega arith;
-          enough_ages = omega arith;
-          few_ages = omega arith;
-          segments_are = segments_are;
-          ages_are = ages_are;
-        }
+counted numbers counts e =
+    let segments = through (count_in segments_field segment_counts numbers) _ e in
+    let ages = through (count_in ages_field age_counts numbers) _ segments.next_is in
+    let second = through (count_in second_segments_field segment_counts numbers) _ ages.next_is in
+    let s = counted_within segments_field segment_counts _ segments.given_is in
+    let a = counted_within ages_field age_counts _ ages.given_is in
+    let t = counted_within second_segments_field segment_counts _ second.given_is in
+    let known : Counted numbers (record { segments = segments.from; ages = ages.from; second_segments = second.from }) =
+    record {
+      few_segments = s.most;
+      enough_ages = a.least;
+      few_ages = a.most;
+      few_second = t.most;
+      segments_are = s.is;
+      ages_are = a.is;
+      second_are = t.is;
+    } in
+    rw (ok_counts _ counts second.next_is) at known
 
 -- ---- what is accepted
 
@@ -94,9 +95,6 @@ passed : {A : Type 0} (given : OrRefusal A) (numbers : List ℕ) (next : A → O
     → (unless_refused given numbers next).reading ≡ Ok counts → Passed given numbers next counts
 passed (Ok value) numbers next e = record { from = value; given_is = refl; outcome_is = refl; reads = e }
 passed (Err refusal) numbers next e = absurd (let z : ⊥ = cc in z)
-
-ok_counts : (counts other : Counts) → ◌≡◌ {A = OrRefusal Counts} (Ok counts) (Ok other) → counts ≡ other
-ok_counts counts other e = cc
 
 -- nothing is left behind the last line
 nothing_left : (behind : ℕ) (rest : Result (List ℕ) ℕ) {done : Unit {0}} → ended behind rest ≡ Ok done → rest ≡ Ok []
@@ -125,7 +123,7 @@ module _ (blank : Option Blank) (card : List ℕ) where
       let b = passed (counts_in first.numbers) first.numbers (ending blank first.numbers a.from) a.reads in
       let more = announced blank b.from a.from in
       let all = first.numbers ++ more.numbers in
-      let d = passed (shape (ended (line_behind b.from) more.rest)) all (λ _. accepted b.from.segments b.from.ages all) b.reads in
+      let d = passed (shape (ended (line_behind b.from) more.rest)) all (λ _. accepted b.from all) b.reads in
       let same : b.from ≡ counts = ok_counts b.from counts d.reads in
       let right_to_end = nothing_left (line_behind b.from) more.rest (right (ended (line_behind b.from) more.rest) d.given_is) in
       let here : Whole b.from = record {
@@ -143,8 +141,6 @@ module _ (blank : Option Blank) (card : List ℕ) where
       let w = whole counts e in
       let more = announced blank counts w.rest in
       let c = w.counts_are in
-      let segments_are = c.segments_are in
-      let ages_are = c.ages_are in
       let head_count : length first.numbers ≡ head_fields = w.head_is.read in
       let more_count = w.more_is.read ∙ announced_fields counts in
       let both = length-append first.numbers more.numbers in
@@ -153,9 +149,11 @@ module _ (blank : Option Blank) (card : List ℕ) where
         few_segments = c.few_segments;
         enough_ages = c.enough_ages;
         few_ages = c.few_ages;
+        few_second = c.few_second;
         count = omega arith;
-        segments_field_is = get_or-append first.numbers more.numbers 0 (segments_field - 1) (omega arith) ∙ segments_are;
-        ages_field_is = get_or-append first.numbers more.numbers 0 (ages_field - 1) (omega arith) ∙ ages_are;
+        segments_field_is = get_or-append first.numbers more.numbers 0 (segments_field - 1) (omega arith) ∙ c.segments_are;
+        ages_field_is = get_or-append first.numbers more.numbers 0 (ages_field - 1) (omega arith) ∙ c.ages_are;
+        second_field_is = get_or-append first.numbers more.numbers 0 (second_segments_field - 1) (omega arith) ∙ c.second_are;
         below =
             append_small first.numbers more.numbers (lines_small blank digits head_lines 1 1 card)
             (lines_small blank digits (announced_lines counts) first_segment_line first_segment_field w.rest);
@@ -169,6 +167,7 @@ module _ (blank : Option Blank) (card : List ℕ) where
       let due = announced_bytes counts in
       let few = w.counts_are.few_segments in
       let few_ages = w.counts_are.few_ages in
+      let few_second = w.counts_are.few_second in
       let first_long = w.head_is.long in
       let more_long = w.more_is.long in
       omega arith

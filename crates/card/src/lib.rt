@@ -10,9 +10,11 @@ ghost use Rattle.card.specs.Card.{shape, counts_in, announced, line_behind, outc
 ghost use Rattle.card.specs.Conditions.{AnnouncedFit};
 ghost use Rattle.card.specs.Laws.{card_accepted};
 
-use fields::layout::{AGES, HEAD_FIELDS, PER_AGE, PER_SEGMENT, SEGMENTS};
-use fields::limits::{BLANK_SLIP, LEAST_AGES, MOST_AGES, MOST_FIELDS, MOST_SEGMENTS};
-use fields::read::{Counts, Reader};
+use fields::layout::{AGES, HEAD_FIELDS, PER_AGE, PER_SEGMENT, SECOND_SEGMENTS, SEGMENTS};
+use fields::limits::{
+    BLANK_SLIP, LEAST_AGES, MOST_AGES, MOST_FIELDS, MOST_SEGMENTS, MOST_SEGMENTS_OF_BOTH,
+};
+use fields::read::{self, Counts, Reader};
 use fields::refusal::Refusal;
 use fields::{layout, places};
 use line::lines::Unread;
@@ -21,7 +23,7 @@ use line::{Blank, COLUMNS};
 const HEAD_LINES: usize = 4;
 
 // The fields on each of lines 1 to 4.
-const FIELDS_BY_LINE: [usize; HEAD_LINES] = [7, 6, 5, 6];
+const FIELDS_BY_LINE: [usize; HEAD_LINES] = [7, 6, 5, 7];
 
 // The bytes of lines 1 to 4, of a segment's line and of an age's, each with its line feed; and of the longest good card.
 const HEAD_BYTES: usize = COLUMNS * HEAD_FIELDS + HEAD_LINES;
@@ -30,7 +32,9 @@ const SEGMENT_BYTES: usize = COLUMNS * PER_SEGMENT + 1;
 
 const AGE_BYTES: usize = COLUMNS * PER_AGE + 1;
 
-pub const MOST_BYTES: usize = HEAD_BYTES + SEGMENT_BYTES * MOST_SEGMENTS + AGE_BYTES * MOST_AGES;
+pub const MOST_BYTES: usize = HEAD_BYTES
+    + SEGMENT_BYTES * MOST_SEGMENTS_OF_BOTH
+    + AGE_BYTES * MOST_AGES;
 
 // A blank slip reads so many ticks, and no other field may be blank.
 const SLIP: Blank = Blank {
@@ -50,15 +54,15 @@ fn counts(fields: &[u64]) -> Result<Counts, Refusal>
     requires { head_fields ≤ length fields.now }
     ensures { result ≡ counts_in fields.now }
 {
-    let segments = fields[places::SEGMENTS] as usize;
-    if MOST_SEGMENTS < segments {
-        return Err(Refusal::Ranges(SEGMENTS as u64));
-    }
-    let ages = fields[places::AGES] as usize;
-    if !(LEAST_AGES..=MOST_AGES).contains(&ages) {
-        return Err(Refusal::Ranges(AGES as u64));
-    }
-    Ok(Counts { segments, ages })
+    let segments = read::count_within(SEGMENTS, 0, MOST_SEGMENTS, fields[places::SEGMENTS])?;
+    let ages = read::count_within(AGES, LEAST_AGES, MOST_AGES, fields[places::AGES])?;
+    let second = fields[places::SECOND_SEGMENTS];
+    let second_segments = read::count_within(SECOND_SEGMENTS, 0, MOST_SEGMENTS, second)?;
+    Ok(Counts {
+        segments,
+        ages,
+        second_segments,
+    })
 }
 
 // The lines of segments and of ages, which end the card. The first wrong line, if there is one.
@@ -68,8 +72,9 @@ fn read_announced(unread: &mut Unread, counts: Counts, fields: &mut [u64]) -> Re
     ensures fields_after { fields.new
         ≡ over (announced unread.old.blank counts unread.old.bytes.now).numbers fields.old }
 {
-    unread.read_lines(&[PER_SEGMENT; MOST_SEGMENTS][..counts.segments], fields)?;
-    let read = PER_SEGMENT * counts.segments;
+    let segments = counts.segments + counts.second_segments;
+    unread.read_lines(&[PER_SEGMENT; MOST_SEGMENTS_OF_BOTH][..segments], fields)?;
+    let read = PER_SEGMENT * segments;
     unread.read_lines(&[PER_AGE; MOST_AGES][..counts.ages], &mut fields[read..])?;
     unread.end()
 }

@@ -4,7 +4,7 @@ use std::rt::Files;
 use std::{fs, io};
 use text::Program;
 
-const CARDS: usize = 441;
+const CARDS: usize = 518;
 
 // A card's file.
 fn open_card<R: Files + Alloc>(rt: &R, number: usize) -> io::Result<R::File> {

@@ -1,6 +1,7 @@
 // The lists and the sheets: a line of lists.txt or sheets.txt for each. Bars part it. A list's has two decimal numbers of room, in report
 // and scratch, then the list, each double as the 16 hexadecimal digits of its bits. A sheet's has one number of room, then the card, each
-// byte as two such digits. Then comes the answer, which is passed over.
+// byte as two such digits. Then comes the answer, which is passed over. The last lines of either file stand at the edges of document 02's
+// requests; edge_lists.txt and edge_sheets.txt say which.
 use crate::answers::{print_list, print_sheet};
 use anyhow::{Context, Result};
 use std::fs;

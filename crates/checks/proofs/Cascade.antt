@@ -1,5 +1,6 @@
 -- Rows one after another, "top to bottom": the first row of some, in two parts, and what is known where all hold. Assumes nothing.
 use mathlib.Core.Path.{◌≡◌, refl}
+use mathlib.Core.Bool.{Bool, true, false, cond}
 use mathlib.Core.List.{List, [], ◌∷◌, ◌++◌}
 use Prim.Native.Nat.{ℕ, ◌≤◌, ◌<◌}
 use borrow.Author.Tests.{le-leb, lt-leb}
@@ -29,6 +30,13 @@ over place limit x h = rw (lt-leb x limit h)
 pub at_most : (place limit x : ℕ) → x ≤ limit → checked (at place (leb x limit) ∷ []) ≡ Ok tt
 unfolding checked
 at_most place limit x h = rw (le-leb x limit h)
+
+-- a row of one check and no more: by whether it holds
+pub one_row : (refusal : ℕ → Refusal) (place : ℕ) (holds : Bool)
+    → ◌≡◌ {A = OrRefusal (Unit {0})} (checked_by (row refusal (at place holds ∷ []) ∷ []) tt) (cond holds (Ok tt) (Err (refusal place)))
+unfolding checked_by checked
+one_row refusal place true = refl
+one_row refusal place false = refl
 
 -- what a function cites that makes rows one by one
 pub ruleset rows_made = (first_row, no_row, over, at_most)
@@ -69,3 +77,8 @@ in_parts [] other early value = refl
 in_parts (first ∷ rows) other early value =
     passing (refused_at first.refusal (checked first.checks)) (checked_by (rows ++ other) value) (checked_by rows early)
     (λ given. checked_by other value) (in_parts rows other early value)
+
+-- the first row by itself, and then those below it
+pub row_by_row : {A : Type 0} (first : CheckRow) (rows : List CheckRow) (value : A)
+    → checked_by (first ∷ rows) value ≡ onward (checked_by {A = Unit {0}} (first ∷ []) tt) (λ held. checked_by rows value)
+row_by_row first rows value = in_parts {A = Unit {0}} (first ∷ []) rows tt value

@@ -1,12 +1,10 @@
 -- What a row says of which no check fails: each check holds; and what a check that holds says. Assumes nothing.
 use mathlib.Core.Path.{◌≡◌, refl}
-use mathlib.Core.Bool.{Bool, true, false, not, ◌||◌, cond, and-eq-true_iff}
+use mathlib.Core.Bool.{Bool, true, false, not, ◌||◌, cond}
 use mathlib.Core.List.{List, [], ◌∷◌, ◌++◌}
-use Prim.Native.Nat.{ℕ, ◌≤◌}
-use borrow.Author.Tests.{leb-true}
-use lib.Dec.{leb}
+use Prim.Native.Nat.{ℕ}
 use Rattle.std.specs.Prelude.{Result, Ok, Err}
-use Rattle.checks.specs.Rows.{Check, checked, within}
+use Rattle.checks.specs.Rows.{Check, checked}
 
 abbrev pub Holds : List Check → Type 0
 Holds [] = Unit
@@ -39,6 +37,3 @@ other_true false b e f = e
 pub asked_true : (a b : Bool) → (not a || b) ≡ true → a ≡ true → b ≡ true
 asked_true true b e f = e
 asked_true false b e f = cc
-
-pub in_range : (low high x : ℕ) → within low high x ≡ true → (low ≤ x) × (x ≤ high)
-in_range low high x e = let b = (and-eq-true_iff (leb low x) (leb x high)).0 e in (leb-true low x b.0, leb-true x high b.1)

@@ -7,7 +7,8 @@ use lib.ListN.{length, get_or, drop, drop_of_length-le}
 use lib.Seq.{drop-cons}
 use Rattle.std.specs.Prelude.{Ok}
 use Rattle.fields.specs.Sizes.{most_fields}
-use Rattle.checks.specs.Rows.{at, within, checked}
+use Rattle.fields.specs.Limits.{within}
+use Rattle.checks.specs.Rows.{at, checked}
 use Rattle.checks.specs.Ranged.{Elements, ranges_held}
 use Rattle.checks.proofs.Rows.{before, first}
 

@@ -1,7 +1,8 @@
 -- It serves the code alone. Fields by their elements, each with the range that it is held to, and their checks.
 use Rattle.std.specs.Prelude.{ℕ, ◌+◌, ◌<◌, List, [], ◌∷◌, get_or}
 use Rattle.fields.specs.Sizes.{most_fields}
-use Rattle.checks.specs.Rows.{Check, at, within}
+use Rattle.fields.specs.Limits.{within}
+use Rattle.checks.specs.Rows.{Check, at}
 
 -- each is an element of all fields
 abbrev pub Elements : List (ℕ × ℕ × ℕ) → Type 0

@@ -1,4 +1,5 @@
--- The promise rests on it. Document 01, "Refusal by place of checking", from codes to creep: each row as its checks in their order.
+-- The promise rests on it. Document 01, "Refusal by place of checking", from codes to creep, with the checks of two paths by document 02,
+-- W9: each row as its checks in their order.
 use Rattle.std.specs.Prelude.{ℕ, ◌+◌, ◌*◌, Bool, ◌&&◌, ◌||◌, not, cond, List, [], ◌∷◌, ◌++◌, leb, ltb, eqb, length}
 use Rattle.std.specs.Prelude.{Result, Ok, Err}
 use Rattle.logarithm.specs.Logarithm.{service_life}
@@ -6,11 +7,12 @@ use Rattle.fields.specs.declared.refusal.Refusal.{Refusal}
 use Rattle.fields.specs.Quantities.{first_segment_field, first_age_field, per_segment, per_age, Quantities, field_number}
 use Rattle.fields.specs.declared.segments.Segment.{Segment}
 use Rattle.fields.specs.declared.segments.Age.{Age}
-use Rattle.fields.specs.Quantities.{is_pretensioned, is_moist, straight, parabola, bend}
+use Rattle.fields.specs.Quantities.{is_pretensioned, is_moist, both_paths, straight, parabola, bend}
 use Rattle.fields.specs.Outcomes.{OrRefusal, onward}
-use Rattle.fields.specs.Limits.{Range, range, most_of_strength, hundredths, most_length, most_moment, least_straight, least_parabola}
-use Rattle.fields.specs.Limits.{most_rise, most_angle, least_moist_transfer, most_friction, report_room, scratch_room, most_kappa}
-use Rattle.fields.specs.Limits.{most_creep_of_kappa}
+use Rattle.fields.specs.Limits.{Range, range, within, most_of_strength, hundredths, most_length, most_moment, least_straight}
+use Rattle.fields.specs.Limits.{least_parabola}
+use Rattle.fields.specs.Limits.{most_rise, most_angle, least_moist_transfer, most_friction, most_apart, report_room, scratch_room}
+use Rattle.fields.specs.Limits.{most_kappa, most_creep_of_kappa}
 
 -- ---- a row of checks
 
@@ -45,10 +47,6 @@ unfoldable pub checked_by : {A : Type 0} → List CheckRow → A → OrRefusal A
 checked_by [] value = Ok value
 checked_by (row ∷ rows) value = onward (refused_at row.refusal (checked row.checks)) (λ held. checked_by rows value)
 
--- x lies in low..high
-abbrev pub within : ℕ → ℕ → ℕ → Bool
-within low high x = leb low x && leb x high
-
 -- what stands in a field lies in its range
 abbrev pub ranged : ℕ → Range → ℕ → Check
 ranged number range x = at number (within range.low range.high x)
@@ -66,7 +64,7 @@ head_codes q =
     ∷ ranged field_number.cure range.cure q.cure ∷ ranged field_number.concrete range.concrete q.concrete ∷ []
 
 unfoldable pub codes : Quantities → List Check
-codes q = head_codes q ++ segment_codes first_segment_field q.path
+codes q = head_codes q ++ segment_codes first_segment_field (both_paths q)
 
 -- ---- ranges: "out of range; running sum of moments over 2^40"
 
@@ -80,7 +78,7 @@ jacking_fits q =
 abbrev pub deflector_fits : Quantities → Bool
 deflector_fits q = leb q.deflector_loss range.deflector_loss.high && (is_pretensioned q || eqb q.deflector_loss 0)
 
--- lines 1 to 4. Fields 23 and 24 were ranged while the shape was read.
+-- lines 1 to 4. Fields 23 to 25 were ranged while the shape was read.
 abbrev pub head_ranges : Quantities → List Check
 head_ranges q =
     ranged field_number.ultimate_strength range.ultimate_strength q.ultimate_strength
@@ -121,8 +119,8 @@ ranges_of_moments place before (age ∷ ages) =
 unfoldable pub ranges : Quantities → List Check
 ranges q =
     head_ranges q
-    ++ (ranges_of_segments first_segment_field q.path
-    ++ ranges_of_moments (first_age_field (length q.path)) q.own_weight_moment q.ages)
+    ++ (ranges_of_segments first_segment_field (both_paths q)
+    ++ ranges_of_moments (first_age_field (length (both_paths q))) q.own_weight_moment q.ages)
 
 -- ---- hours: "rule of hours broken". "Rules of hours that name the end of curing break at field 19, transfer's own range at 20."
 
@@ -146,14 +144,31 @@ hours_of_ages place before (age ∷ ages) =
 unfoldable pub hours : Quantities → List Check
 hours q =
     at field_number.end_of_curing (curing_fits q) ∷ at field_number.transfer (transfer_fits q)
-    ∷ hours_of_ages (first_age_field (length q.path)) q.transfer q.ages
+    ∷ hours_of_ages (first_age_field (length (both_paths q))) q.transfer q.ages
 
--- ---- the rows of X, of the lent buffers, of κ and of U·κ; the places of the first two are numbers of their own
+-- ---- duct: each of its checks is a row here, since 14 stands between the places of 4, and 15 behind them
 
--- duct: "kind 1 with segments", and document 02, W3: "Refusal 4 place 2 now begins where X passes 1.5 T"
-abbrev pub duct : Bool → ℕ → ℕ → List Check
-duct pretensioned segments friction =
-    at 1 (not pretensioned || eqb segments 0) ∷ at 2 (leb friction most_friction) ∷ []
+-- "kind 1 with segments", place 1; document 02, W9: "(first path only)"
+abbrev pub kind_row : Bool → ℕ → CheckRow
+kind_row pretensioned segments = row Refusal.Duct (at 1 (not pretensioned || eqb segments 0) ∷ [])
+
+-- document 02, W9: "14 when a second path stands on a pretensioned card, .. place 2"
+abbrev pub second_path_row : Bool → ℕ → CheckRow
+second_path_row pretensioned second_segments =
+    row (λ place. Refusal.SecondPath) (at 2 (not pretensioned || eqb second_segments 0) ∷ [])
+
+-- document 02, W3: "Refusal 4 place 2 now begins where X passes 1.5 T", of one path; W9: "4 place 2 .. look at both paths"
+abbrev pub friction_row : ℕ → CheckRow
+friction_row friction = row Refusal.Duct (at 2 (leb friction most_friction) ∷ [])
+
+-- document 02, W9: "15 when, with a second path, the two path lengths differ from field 7 by more than one foot together, .. place 7"
+abbrev pub path_lengths_row : Bool → ℕ → ℕ → CheckRow
+path_lengths_row second lengths tendon_length =
+    row (λ place. Refusal.PathLengths)
+    (at field_number.tendon_length
+    (not second || (leb lengths (tendon_length + most_apart) && leb tendon_length (lengths + most_apart))) ∷ [])
+
+-- ---- the rows of the lent buffers, of κ and of U·κ; the places of the first are numbers of their own
 
 -- buffers: "report or scratch under" 5n numbers (document 02, W1)
 abbrev pub buffers : ℕ → ℕ → ℕ → List Check

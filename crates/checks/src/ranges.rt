@@ -130,12 +130,12 @@ fn rise_fits(segment: Segment) -> bool
     }
 }
 
-// The ranges of a path's segments.
+// The ranges of some segments.
 #[tactic(auto, using(crate::proofs::Rows::first), unfolding(crate::specs::Rows::ranges_of_segments, crate::specs::Rows::checked))]
-pub fn of_segments(path: Parts<Segment>) -> Result<(), u64>
-    ensures { result ≡ checked (ranges_of_segments path.entry.place (segments_of path.entry.fields.now)) }
+pub fn of_segments(segments: Parts<Segment>) -> Result<(), u64>
+    ensures { result ≡ checked (ranges_of_segments segments.entry.place (segments_of segments.entry.fields.now)) }
 {
-    for (place, segment) in path {
+    for (place, segment) in segments {
         row::check(length_fits(segment), place + 1)?;
         row::check(rise_fits(segment), place + 2)?;
     }
@@ -169,6 +169,6 @@ pub fn check(fields: &Fields) -> Result<(), u64>
     ensures { result ≡ checked (ranges fields.now) }
 {
     head_ranges(fields)?;
-    of_segments(fields.path())?;
+    of_segments(fields.both_paths())?;
     of_moments(fields.ages(), fields.numbers[places::OWN_WEIGHT_MOMENT])
 }

@@ -1,7 +1,8 @@
 // A row of the table of refusals: its checks in the order of their fields, of which the first that fails gives the place.
 ghost use Rattle.std.specs.Prelude.{◌≡◌, [], ◌∷◌, ◌+◌, ◌<◌, get_or};
 ghost use Rattle.fields.specs.Sizes.{most_fields};
-ghost use Rattle.checks.specs.Rows.{checked, within, at};
+ghost use Rattle.fields.specs.Limits.{within};
+ghost use Rattle.checks.specs.Rows.{checked, at};
 ghost use Rattle.checks.specs.Ranged.{Elements, ranges_held};
 
 use fields::limits::MOST_FIELDS;

@@ -1,5 +1,5 @@
 -- Two lists of stresses, step beside step, in ticks or in fractions: each pair is near in some way, and a pair is read off at any place.
--- The path's stresses stand in front as `each`. Assumes nothing.
+-- The stresses of each path stand in front as `each`. Assumes nothing.
 use mathlib.Core.Path.{◌≡◌, refl, ap}
 use mathlib.Core.List.{List, [], ◌∷◌, ◌++◌}
 use Prim.Native.Nat.{ℕ, zero, suc, ◌≤◌, ◌<◌}

@@ -2,7 +2,6 @@
 -- number; and the runs of two inputs that are read as two such members are the two runs of `TwoRuns`, as the readers range the counts.
 -- Assumes nothing.
 use mathlib.Core.Path.{◌≡◌, refl, sym, ◌∙◌}
-use mathlib.Core.Bool.{false}
 use mathlib.Core.List.{List}
 use Prim.Native.Nat.{ℕ, ◌≤◌, ◌<◌}
 use native.Mathlib.Nat.{le_trans}
@@ -11,12 +10,11 @@ use native.Mathlib.Omega.{arith}
 use lib.Dec.{lit≤}
 use lib.ListN.{length}
 use Rattle.std.specs.Prelude.{Ok, Err}
-use Rattle.fields.specs.Limits.{most_segments, most_ages}
 use Rattle.fields.specs.Outcomes.{OrRefusal}
 use Rattle.fields.specs.Quantities.{Quantities, quantities_read}
 use Rattle.fields.specs.Refusals.{acceptance_number}
 use Rattle.fields.specs.Readable.{AcceptedIfRead}
-use Rattle.fields.proofs.Counting.{path_counted, ages_counted}
+use Rattle.fields.proofs.Counting.{Few, few_counted}
 use Rattle.fields.proofs.Refusals.{refusal_number}
 use Rattle.card.specs.Laws.{card_accepted}
 use Rattle.list.specs.Laws.{list_accepted}
@@ -27,9 +25,9 @@ use Rattle.stages.specs.Run.{Report, result_read}
 use Rattle.entries.specs.Answers.{Answer, answer_of, answer_number, Ran}
 use Rattle.entries.specs.Promise.{Promise}
 use Rattle.stratelyn.specs.Hosts.{reply_bytes, Hosted, Served}
-use Rattle.drift.specs.Drift.{follows_path, TwoGauges, Drift}
+use Rattle.drift.specs.Drift.{TwoGauges, Drift}
 use Rattle.drift.specs.Returned.{Input, card, list, bytes, read, Gave, GaugeDrift}
-use Rattle.drift.proofs.Runs.{AcceptedRun, accepted_run, same_rule}
+use Rattle.drift.proofs.Runs.{OverTheTendon, AcceptedRun, accepted_run, same_rule}
 use Rattle.drift.proofs.TwoRuns.{drift}
 
 -- ---- the runs of two inputs
@@ -40,35 +38,32 @@ read_accepted (card lines) = card_accepted lines
 read_accepted (list doubles) = list_accepted doubles
 read_accepted (bytes doubles) = bytes_accepted doubles
 
-few : (input : Input) (q : Quantities) → quantities_read (read input) ≡ Ok q
-    → (length q.path ≤ most_segments) × (length q.ages ≤ most_ages)
+few : (input : Input) (q : Quantities) → quantities_read (read input) ≡ Ok q → Few q
 few input =
-    of_read (read input) (λ q. (length q.path ≤ most_segments) × (length q.ages ≤ most_ages))
+    of_read (read input) Few
     (λ counts e.
     let good = read_accepted input counts e in
-    let fields = (read input).numbers in (
-      rw (path_counted counts fields) good.few_segments,
-      rw (ages_counted counts fields) good.few_ages,
-    ))
+    few_counted counts (read input).numbers good.few_segments good.few_second good.few_ages)
 
-run_of : (input : Input) {q : Quantities} → quantities_read (read input) ≡ Ok q → (0 < q.jacking_stress → follows_path q ≡ false)
+run_of : (input : Input) {q : Quantities} → quantities_read (read input) ≡ Ok q → (0 < q.jacking_stress → OverTheTendon q)
     → (report scratch : ℕ) {given : Report} → result_read (read input) report scratch ≡ Ok given → AcceptedRun q given
-run_of input {q} is_read over report scratch ran =
-    let (few_segments, few_ages) = few input q is_read in
-    accepted_run q report scratch few_segments few_ages over (rw is_read at ran)
+run_of input {q} is_read over report scratch ran = accepted_run q report scratch (few input q is_read) over (rw is_read at ran)
 
 -- the other's slip goes over the tendon where the one's does
-other_over : {q p : Quantities} → TwoGauges q p → 0 < q.jacking_stress → 0 < p.jacking_stress → follows_path p ≡ false
+other_over : {q p : Quantities} → TwoGauges q p → 0 < q.jacking_stress → 0 < p.jacking_stress → OverTheTendon p
 other_over {q} {p} gauges q>0 p>0 =
+    let common = gauges.common in
+    let over = rw gauges.one_is at gauges.over_the_tendon in
     rw gauges.other_is
-    (sym (same_rule gauges.field gauges.path gauges.ages q.jacking_stress p.jacking_stress q>0 p>0)
-    ∙ rw gauges.one_is at gauges.over_the_tendon)
+    (record {
+      first = sym (same_rule common common.path q.jacking_stress p.jacking_stress q>0 p>0) ∙ over.first;
+      second = sym (same_rule common common.second_path q.jacking_stress p.jacking_stress q>0 p>0) ∙ over.second;
+    })
 
 drift_of : {q p : Quantities} {one other : Report} → TwoGauges q p → AcceptedRun q one → AcceptedRun p other → Drift q p one other
 drift_of {q} {p} gauges run run' =
     rw (gauges.one_is, gauges.other_is)
-    (drift gauges.field gauges.path gauges.ages q.jacking_stress p.jacking_stress
-    (rw gauges.one_is at run) (rw gauges.other_is at run'))
+    (drift gauges.common q.jacking_stress p.jacking_stress (rw gauges.one_is at run) (rw gauges.other_is at run'))
 
 -- ---- what the entries return
 

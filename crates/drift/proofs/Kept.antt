@@ -1,38 +1,42 @@
--- The two runs in ticks, step beside step: what the gauges differ by is the most that the two stresses ever do. Along the path a factor of
--- at most 1 is left of both; slip and the deflector loss take the same of both. Every other loss grows with the stress, so that the
--- higher stress comes down more; and it grows by less than twice the rise, so that even where the two change places they lie no further
--- apart. What roundings add is less than what that leaves of a psi, and two gauges that differ at all differ by a psi at least. Assumes
--- nothing.
+-- The two runs in ticks, step beside step: what the gauges differ by is the most that the two stresses ever do. Along each path a factor of
+-- at most 1 is left of both; slip and the deflector loss take the same of both, and the larger of two lies no further from the larger of
+-- two others than each does from its own. Every other loss grows with the stress, so that the higher stress comes down more; and it grows
+-- by less than twice the rise, so that even where the two change places they lie no further apart. What roundings add is less than what
+-- that leaves of a psi, and two gauges that differ at all differ by a psi at least. Assumes nothing.
 use mathlib.Core.Path.{◌≡◌, refl, subst}
+use mathlib.Core.Bool.{Bool, true, false, cond}
 use mathlib.Core.List.{List}
 use Prim.Native.Nat.{ℕ, ◌+◌, ◌-◌, ◌≤◌}
 use native.Mathlib.Decide.{dec_le}
 use native.Mathlib.Omega.{arith}
-use lib.Dec.{lit≤}
+use lib.Dec.{ltb, lit≤}
 use lib.ListN.{length, take}
 use Rattle.fraction.specs.Fraction.{whole}
 use Rattle.ticks.specs.Ticks.{ticks_per_unit}
 use Rattle.logarithm.specs.Logarithm.{service_life}
 use Rattle.coefficient.specs.declared.codes.Kind.{Kind}
 use Rattle.coefficient.specs.declared.codes.Kind.TheVariants.{Pretensioned, PostTensioned}
-use Rattle.fields.specs.declared.segments.Age.{Age}
 use Rattle.fields.specs.declared.segments.Segment.{Segment}
-use Rattle.fields.specs.Quantities.{Quantities}
+use Rattle.fields.specs.declared.segments.Age.{Age}
+use Rattle.fields.specs.Quantities.{Quantities, has_second_path}
 use Rattle.formulas.specs.Steps.{stress_left, relaxation_loss}
 use Rattle.formulas.proofs.Laws.{stress_left_most}
-use Rattle.member.specs.Constants.{jacked, stress_along, path_friction}
+use Rattle.member.specs.Constants.{jacked, friction_of, stress_along}
 use Rattle.member.specs.Member.{member_of, kind_of, steel_of, kappa_of, creep_of}
 use Rattle.member.specs.Facts.{RisingFrom, rises, Facts}
 use Rattle.stages.specs.declared.intervals.Row.{Row}
 use Rattle.stages.specs.Run.{early_relaxation, early_relaxation_of, shortening_of, end_at, losses_between, together, Report}
 use Rattle.tolerance.specs.Method.{table_choice}
-use Rattle.tolerance.specs.Demand.{core_after_slip, core_after_deflector, core_after_early, stresses_of, core_stresses}
+use Rattle.tolerance.specs.Demand.{each, slip_dies_out, left_along, second_goes_on, goes_on, core_after_slip, core_after_deflector}
+use Rattle.tolerance.specs.Demand.{core_after_early}
+use Rattle.tolerance.specs.Demand.{stresses_of, core_stresses}
+use Rattle.tolerance.proofs.AfterSlip.{both_true, goes_on_most, core_is}
 use Rattle.tolerance.proofs.Bounds.{Low, low, creep_top}
 use Rattle.tolerance.proofs.Ends.{between, before_transfer}
 use Rattle.tolerance.proofs.Logarithms.{most_rise, Logs, table_logs}
 use Rattle.tolerance.proofs.Run.{AgesRun, no_age, an_age, stress_to}
-use Rattle.drift.specs.Drift.{jacked_to, distance}
-use Rattle.drift.proofs.Runs.{AcceptedRun, friction_leaves, slip_is, early_fits, shortening_fits, shortening_leaves}
+use Rattle.drift.specs.Drift.{Common, jacked_to, distance}
+use Rattle.drift.proofs.Runs.{AcceptedRun, left_is, early_fits, shortening_fits, shortening_leaves}
 use Rattle.drift.proofs.Runs.{not_above_jacked}
 use Rattle.drift.proofs.Beside.{Beside, no_step, a_step, beside_append, beside_each}
 use Rattle.drift.proofs.Growth.{whole_rise, Grows, left_grows, creep_grows, shortening_rounding, shortening_grows}
@@ -51,6 +55,16 @@ by_order P turned above x y = by (dec_le x y)
     by : Dec (x ≤ y) → P x y
     by (yes h) = up x y h
     by (no h) = turned y x (up y x (omega arith))
+
+-- neither lies further above the other
+both_ways : (x y e : ℕ) → x ≤ y + e → y ≤ x + e → distance x y ≤ e
+both_ways x y e up down = omega arith
+
+turned : (x y e : ℕ) → distance x y ≤ e → distance y x ≤ e
+turned x y e near = omega arith
+
+below_top : (x y top e : ℕ) → distance x y ≤ e → y ≤ top → x ≤ top + e
+below_top x y top e near below = omega arith
 
 -- the same loss, whatever the stress
 same_off : (loss e x y : ℕ) → distance x y ≤ e → distance (x - loss) (y - loss) ≤ e
@@ -83,7 +97,7 @@ loss_apart q loss growing slope rounding e large =
 -- ---- the losses of a member
 
 -- the core's own logarithms; what factors stand beside them does not matter here
-own_logs : Logs 0 (table_choice (λ j. whole 0))
+own_logs : Logs 0 (table_choice (λ j. whole 0) (λ j. whole 0))
 own_logs = table_logs
 
 module _ {q : Quantities} {report scratch : ℕ} (facts : Facts q report scratch) where
@@ -126,12 +140,12 @@ pub record Apart (q : Quantities) (e x y : ℕ) : Type 0 where
   pub other_low : Low q y
   pub apart : distance x y ≤ e
 
-module _ (field : ℕ → ℕ) (path : List Segment) (ages : List Age) (a b : ℕ) where
+module _ (common : Common) (a b : ℕ) where
   abbrev q : Quantities
-  q = jacked_to a field path ages
+  q = jacked_to a common
 
   abbrev p : Quantities
-  p = jacked_to b field path ages
+  p = jacked_to b common
 
   -- the jacking stress has no part in it
   same_early : (kind : Kind) (stress : ℕ) → early_relaxation kind (member_of p) stress ≡ early_relaxation kind (member_of q) stress
@@ -146,16 +160,43 @@ module _ (field : ℕ → ℕ) (path : List Segment) (ages : List Age) (a b : �
     before_apart {x} {y} x≤ y≤ near =
         record { one_low = low run.facts x x≤; other_low = low run'.facts y y≤; apart = near }
 
-    -- after the first j segments
-    along : (j : ℕ) → Apart q e (stress_along q j) (stress_along p j)
-    along j =
-        let X = path_friction q.wobble q.curvature (take j path) in
+    -- after the first j segments of a path
+    along : (path : List Segment) (j : ℕ) → Apart q e (stress_along q path j) (stress_along p path j)
+    along path j =
+        let X = friction_of q (take j path) in
         before_apart (stress_left_most (jacked q) X) (stress_left_most (jacked p) X) (left_apart X e (jacked q) (jacked p) gauges)
 
+    -- after slip, along a path
+    left_near : (path : List Segment) → slip_dies_out q path ≡ false → slip_dies_out p path ≡ false
+        → distance (left_along q path) (left_along p path) ≤ e
+    left_near path over over' =
+        rw (left_is run path over, left_is run' path over') (same_off _ e _ _ (along path (length path)).apart)
+
+    first_near : distance (left_along q q.path) (left_along p p.path) ≤ e
+    first_near = left_near common.path run.over_the_tendon.first run'.over_the_tendon.first
+
+    second_near : distance (left_along q q.second_path) (left_along p p.second_path) ≤ e
+    second_near = left_near common.second_path run.over_the_tendon.second run'.over_the_tendon.second
+
+    -- the larger of the one's is one of its two, and the other's larger is below neither of its own
     slipped : Apart q e (core_after_slip q one.before) (core_after_slip p other.before)
     slipped =
         before_apart (omega arith) (omega arith)
-        (rw (friction_leaves run, friction_leaves run', slip_is run, slip_is run') (same_off _ e _ _ (along (length path)).apart))
+        (rw (core_is q run.began, core_is p run'.began) (both_ways _ _ e (up (second_goes_on q) refl) (down (second_goes_on p) refl)))
+      where
+        up : (second : Bool) → second_goes_on q ≡ second
+            → left_along q (cond second q.second_path q.path) ≤ left_along p (goes_on p) + e
+        up true goes =
+            let (both, larger) = both_true (has_second_path q) (ltb (left_along q q.path) (left_along q q.second_path)) goes in
+            below_top _ _ _ e second_near ((goes_on_most p).1 both)
+        up false goes = below_top _ _ _ e first_near (goes_on_most p).0
+
+        down : (second : Bool) → second_goes_on p ≡ second
+            → left_along p (cond second p.second_path p.path) ≤ left_along q (goes_on q) + e
+        down true goes =
+            let (both, larger) = both_true (has_second_path p) (ltb (left_along p p.path) (left_along p p.second_path)) goes in
+            below_top _ _ _ e (turned _ _ e second_near) ((goes_on_most q).1 both)
+        down false goes = below_top _ _ _ e (turned _ _ e first_near) (goes_on_most q).0
 
     pub deflected : Apart q e (core_after_deflector q one.before) (core_after_deflector p other.before)
     deflected =
@@ -198,9 +239,14 @@ module _ (field : ℕ → ℕ) (path : List Segment) (ages : List Age) (a b : �
         record { one_low = low_then; other_low = low_then'; apart = same_on _ e _ _ left } in
         a_step next (ages_apart ran ran' rising next)
 
+    on_path : (path : List Segment)
+        → Beside (Apart q e) (each (length path) (stress_along q path)) (each (length path) (stress_along p path))
+    on_path path = beside_each (stress_along q path) (stress_along p path) (length path) (λ j within. along path j)
+
     pub run_apart : Beside (Apart q e) (core_stresses q one) (core_stresses p other)
     run_apart =
-        beside_append (beside_each (stress_along q) (stress_along p) (length path) (λ j within. along j))
+        beside_append (on_path common.path)
+        (beside_append (on_path common.second_path)
         (a_step slipped
         (a_step relaxed
-        (a_step shortened (ages_apart run.ran run'.ran run.facts.ages_rise shortened))))
+        (a_step shortened (ages_apart run.ran run'.ran run.facts.ages_rise shortened)))))

@@ -2,7 +2,6 @@
 -- more, which is what the walk in ticks asks for. So each stress lies within d of the other, which is more than is asked; in fractions it
 -- is the walk there. Assumes nothing.
 use mathlib.Core.Path.{◌≡◌, ◌∙◌}
-use mathlib.Core.List.{List}
 use Prim.Native.Nat.{ℕ, suc, ◌+◌, ◌*◌, ◌≤◌, ◌<◌}
 use native.Mathlib.Nat.{le_refl, le_trans}
 use native.Mathlib.Decide.{dec_le}
@@ -12,17 +11,13 @@ use Rattle.fraction.specs.Fraction.{whole, Within}
 use Rattle.fraction.proofs.Laws.{≼_trans, ≼-of-≈, whole-⊕}
 use Rattle.fraction.proofs.Floors.{whole_order}
 use Rattle.ticks.specs.Ticks.{ticks_per_unit}
-use Rattle.exponential.specs.Factor.{powers}
-use Rattle.exponential.specs.Series.{sum_to}
-use Rattle.fields.specs.declared.segments.Age.{Age}
-use Rattle.fields.specs.declared.segments.Segment.{Segment}
 use Rattle.fields.specs.Quantities.{Quantities}
 use Rattle.member.specs.Constants.{jacked}
 use Rattle.stages.specs.Run.{Report}
-use Rattle.tolerance.specs.Method.{Choice, exponent_along, Admissible, table_choice}
-use Rattle.tolerance.specs.Demand.{steps_of, core_stresses, core_after_deflector, exact_stresses}
+use Rattle.tolerance.specs.Method.{Choice, Admissible, table_choice}
+use Rattle.tolerance.specs.Demand.{path_steps, steps_of, core_stresses, core_after_deflector, exact_stresses}
 use Rattle.tolerance.proofs.Logarithms.{table_logs}
-use Rattle.drift.specs.Drift.{jacked_to, distance, psi_per_step, allowance, Carried, CarriedInFractions, Drift}
+use Rattle.drift.specs.Drift.{Common, jacked_to, distance, psi_per_step, allowance, Carried, CarriedInFractions, sums_along, Drift}
 use Rattle.drift.proofs.Beside.{Beside, beside_at, beside_lengths}
 use Rattle.drift.proofs.Runs.{AcceptedRun}
 use Rattle.drift.proofs.Kept.{Apart, run_apart, deflected}
@@ -30,7 +25,7 @@ use Rattle.drift.proofs.Fractions.{deflected_apart, run_apart as exact_apart}
 
 -- the core's list has a stress for each step
 count : {q : Quantities} {given : Report} → AcceptedRun q given → length (core_stresses q given) ≡ steps_of q
-count run = (run.demand.narrow _ run.demand.some_factors).core_count
+count run = (run.demand.narrow _ _ run.demand.some_factors.first run.demand.some_factors.second).core_count
 
 whole_apart : (x y e : ℕ) → distance x y ≤ e → Within (whole e) (whole x) (whole y)
 whole_apart x y e near = record {
@@ -38,12 +33,12 @@ whole_apart x y e near = record {
   below = ≼_trans (whole_order (omega arith)) (≼-of-≈ (whole-⊕ x e));
 }
 
-module _ (field : ℕ → ℕ) (path : List Segment) (ages : List Age) (a b : ℕ) where
+module _ (common : Common) (a b : ℕ) where
   abbrev q : Quantities
-  q = jacked_to a field path ages
+  q = jacked_to a common
 
   abbrev p : Quantities
-  p = jacked_to b field path ages
+  p = jacked_to b common
 
   -- d, in ticks
   abbrev e : ℕ
@@ -70,7 +65,7 @@ module _ (field : ℕ → ℕ) (path : List Segment) (ages : List Age) (a b : �
         by (no h) = let same : a ≡ b = omega arith in rw (same, same_run same) (omega arith)
 
     walk : (most : ℕ) → ticks_per_unit ≤ most → e ≤ most → Beside (Apart q most) (core_stresses q one) (core_stresses p other)
-    walk most large h = run_apart field path ages a b run run' most large (gauges_apart most h)
+    walk most large h = run_apart common a b run run' most large (gauges_apart most h)
 
     at : (most : ℕ) → ticks_per_unit ≤ most → e ≤ most → (place : ℕ) → place < steps_of q
         → Apart q most (get_or (core_stresses q one) place 0) (get_or (core_stresses p other) place 0)
@@ -79,20 +74,20 @@ module _ (field : ℕ → ℕ) (path : List Segment) (ages : List Age) (a b : �
     step_kept : (place : ℕ) → place < steps_of q
         → distance (get_or (core_stresses q one) place 0) (get_or (core_stresses p other) place 0) ≤ e
     step_kept place within =
-        within_drift (λ stress given. get_or (core_stresses (jacked_to stress field path ages) given) place 0)
+        within_drift (λ stress given. get_or (core_stresses (jacked_to stress common) given) place 0)
         (λ large. (at e large (le_refl e) place within).apart)
 
     deflector_kept : distance (core_after_deflector q one.before) (core_after_deflector p other.before) ≤ e
     deflector_kept =
-        within_drift (λ stress given. core_after_deflector (jacked_to stress field path ages) given.before)
-        (λ large. (deflected field path ages a b run run' e large (gauges_apart e (le_refl e))).apart)
+        within_drift (λ stress given. core_after_deflector (jacked_to stress common) given.before)
+        (λ large. (deflected common a b run run' e large (gauges_apart e (le_refl e))).apart)
 
     carried : (per_step : ℕ) → Carried per_step q p one other
     carried per_step = record {
       one_count = count run;
       other_count = count run';
       steps = λ place within. le_trans (step_kept place within) (allowed per_step (suc place));
-      deflector = le_trans deflector_kept (allowed per_step (suc (length path)));
+      deflector = le_trans deflector_kept (allowed per_step (suc (path_steps q)));
     }
 
     -- a walk of a psi more, which can be made where the gauges agree too: it is here for its bounds of 0.80 F, which the walk in fractions
@@ -105,29 +100,30 @@ module _ (field : ℕ → ℕ) (path : List Segment) (ages : List Age) (a b : �
       exact_gauges : Within (whole e) (whole (jacked q)) (whole (jacked p))
       exact_gauges = whole_apart (jacked q) (jacked p) e (gauges_apart e (le_refl e))
 
-      exact_walk : Beside (Within (whole e)) (exact_stresses choice q one.before) (exact_stresses choice p other.before)
+      exact_walk : Beside (Within (whole e)) (exact_stresses choice q) (exact_stresses choice p)
       exact_walk =
-          exact_apart field path ages a b choice run run' admissible (whole e) exact_gauges (λ place within. (near place within).one_low)
+          exact_apart common a b choice run run' admissible (whole e) exact_gauges (λ place within. (near place within).one_low)
           (λ place within. (near place within).other_low)
 
-      in_fractions : CarriedInFractions choice q p one other
+      in_fractions : CarriedInFractions choice q p
       in_fractions =
           let exact_count = (run.demand.wide choice admissible).exact_count in
           record {
             one_count = exact_count;
             other_count = beside_lengths exact_walk ∙ exact_count;
             steps = λ place within. beside_at exact_walk place (whole 0) (omega (arith, exact_count));
-            deflector = deflected_apart field path ages a b choice run run' admissible (whole e) exact_gauges;
+            deflector = deflected_apart common a b choice run run' admissible (whole e) exact_gauges;
           }
 
-    some_choice : Admissible q (table_choice (λ j. sum_to powers (exponent_along q j)))
+    some_choice : Admissible q (table_choice (sums_along q q.path) (sums_along q q.second_path))
     some_choice =
-        let logs = table_logs {factor = λ j. sum_to powers (exponent_along q j)} in
+        let logs = table_logs {factor = sums_along q q.path} {second_factor = sums_along q q.second_path} in
         record {
           least = logs.least;
           most = λ hour some life. whole_order (omega arith);
           rises = logs.rises;
-          factors = run.demand.some_factors;
+          factors = run.demand.some_factors.first;
+          second_factors = run.demand.some_factors.second;
         }
 
     pub drift : Drift q p one other

@@ -18,9 +18,9 @@ no_friction : factor 0 ≡ T
 unfolding factor turns
 no_friction = refl
 
-pub jacked_first : (q : Quantities) → stress_along q 0 ≡ jacked q
+pub jacked_first : (q : Quantities) (path : List Segment) → stress_along q path 0 ≡ jacked q
 unfolding path_friction
-jacked_first q = rw no_friction (mul-div_cancel (jacked q) (lit< tt))
+jacked_first q path = rw no_friction (mul-div_cancel (jacked q) (lit< tt))
 
 pub one_segment_more : (wobble curvature : ℕ) (path : List Segment) (k : ℕ) {segment : Segment} {rest : List Segment}
     → drop k path ≡ segment ∷ rest

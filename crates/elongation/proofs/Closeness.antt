@@ -1,6 +1,6 @@
--- The sheet lies near its values in fractions. Each stress along the path lies within its distance; a segment's elongation is the sum of
--- two of them by a factor that is largest on the longest segment at the least Es, rounded once; the distances of the segments add up to
--- that of the sum. The measurable part is 80 of 100 of the sum, rounded once more. Assumes nothing.
+-- The sheet lies near its values in fractions. Each stress along the first path lies within its distance; a segment's elongation is the
+-- sum of two of them by a factor that is largest on the longest segment at the least Es, rounded once; the distances of the segments add
+-- up to that of the sum. The measurable part is 80 of 100 of the sum, rounded once more. Assumes nothing.
 use mathlib.Core.Path.{◌≡◌, refl}
 use mathlib.Core.List.{List, [], ◌∷◌}
 use Prim.Native.Nat.{ℕ, zero, suc, ◌+◌, ◌*◌, ◌/◌, ◌≤◌, ◌<◌}
@@ -178,26 +178,26 @@ module _ (q : Quantities) (few : length q.path ≤ most_segments) where
         let strong = head.ultimate_most in
         omega arith
 
-    module _ {factor : ℕ → Fraction} (factors : FactorsAlong q factor) where
+    module _ {factor : ℕ → Fraction} (factors : FactorsAlong q q.path factor) where
       stress_near : (j : ℕ) → j ≤ length q.path
-          → Within (whole (stress_distance j)) (whole (ticks_along q j)) (stress_along factor q j)
+          → Within (whole (stress_distance j)) (whole (ticks_along q q.path j)) (stress_along factor q j)
       stress_near j h =
           within_weaken (whole_order (omega arith))
           (along_close q known.below_hours.segments_fit few known.friction_most jacked_low factors j h)
 
       sum_close :
-          Within (sum_distance (length q.path)) (whole (ticks_sum (ticks_from q.Es (ticks_along q) 0 q.path)))
+          Within (sum_distance (length q.path)) (whole (ticks_sum (ticks_from q.Es (ticks_along q q.path) 0 q.path)))
           (sum_of (elongations_from q.Es (stress_along factor q) 0 q.path))
       sum_close =
           let s = length q.path in
           let first : 60 * (s * 0) + (30 * (s * s) + 122 * s) ≡ 30 * (s * s) + 122 * s = omega arith in
           rw first at
-          (sum_near q.Es stiff (ticks_along q) (stress_along factor q) s stress_near 0 known.below_hours.segments_fit (omega arith))
+          (sum_near q.Es stiff (ticks_along q q.path) (stress_along factor q) s stress_near 0 known.below_hours.segments_fit (omega arith))
 
       measurable_of : (path : List Segment)
-          → Within (sum_distance (length path)) (whole (ticks_sum (ticks_from q.Es (ticks_along q) 0 path)))
+          → Within (sum_distance (length path)) (whole (ticks_sum (ticks_from q.Es (ticks_along q q.path) 0 path)))
           (sum_of (elongations_from q.Es (stress_along factor q) 0 path))
-          → Within (measurable_distance (length path)) (whole (80 * ticks_sum (ticks_from q.Es (ticks_along q) 0 path) / 100))
+          → Within (measurable_distance (length path)) (whole (80 * ticks_sum (ticks_from q.Es (ticks_along q q.path) 0 path) / 100))
           (measurable_part (sum_of (elongations_from q.Es (stress_along factor q) 0 path)))
       unfolding ticks_from elongations_from ticks_sum sum_of
       measurable_of [] near =
@@ -209,8 +209,8 @@ module _ (q : Quantities) (few : length q.path ≤ most_segments) where
       near = record {
         count = exact_count q.Es (stress_along factor q) 0 q.path;
         segments = λ j h. rw (zero-add j) at
-            (each_near q.Es stiff (ticks_along q) (stress_along factor q) (length q.path) stress_near 0 known.below_hours.segments_fit
-            (omega arith) j h);
+            (each_near q.Es stiff (ticks_along q q.path) (stress_along factor q) (length q.path) stress_near 0
+            known.below_hours.segments_fit (omega arith) j h);
         sum = sum_close;
         measurable = measurable_of q.path sum_close;
       }
@@ -218,7 +218,7 @@ module _ (q : Quantities) (few : length q.path ≤ most_segments) where
     sheet_close : SheetClose q (sheet_of q)
     unfolding sheet_of
     sheet_close = record {
-      count = ticks_count q.Es (ticks_along q) 0 q.path;
+      count = ticks_count q.Es (ticks_along q q.path) 0 q.path;
       near = λ factor factors. near factors;
       some_factors = some_factors q known.below_hours.segments_fit few known.friction_most;
       sum_small = sum_small (length q.path) few;

@@ -1,5 +1,5 @@
--- The elongations of a path are written segment by segment: those that are written and those of the segments left make the whole, and X,
--- the stress before the next segment and the sum are those of the segments that are passed. Assumes nothing.
+-- The elongations of the first path are written segment by segment: those that are written and those of the segments left make the whole,
+-- and X, the stress before the next segment and the sum are those of the segments that are passed. Assumes nothing.
 use mathlib.Core.Path.{◌≡◌, refl, sym, ap, ◌∙◌}
 use mathlib.Core.List.{List, [], ◌∷◌, ◌++◌, append_assoc, append-nil}
 use Prim.Native.Nat.{ℕ, suc, ◌+◌, ◌*◌, ◌≤◌, ◌<◌}
@@ -16,7 +16,7 @@ use Rattle.fields.specs.declared.segments.Segment.{Segment}
 use Rattle.fields.specs.Quantities.{Quantities}
 use Rattle.fields.specs.Limits.{most_friction, most_segments}
 use Rattle.fields.proofs.Buffers.{set_behind}
-use Rattle.member.specs.Constants.{segment_friction, path_friction, jacked, stress_along}
+use Rattle.member.specs.Constants.{segment_friction, path_friction, jacked, friction_of, stress_along}
 use Rattle.member.specs.Facts.{SegmentFrictionFits}
 use Rattle.tolerance.proofs.Path.{friction_of_part}
 use Rattle.elongation.specs.Sheet.{elongation, elongations_from, elongations_of, sum_of}
@@ -56,12 +56,12 @@ pub record Stretching (q : Quantities) (old sheet : List ℕ) (friction before s
   pub done : List ℕ
   pub count : length done ≡ k
   pub within : k ≤ length q.path
-  pub friction_is : friction ≡ path_friction q.wobble q.curvature (take k q.path)
-  pub before_is : before ≡ stress_along q k
+  pub friction_is : friction ≡ friction_of q (take k q.path)
+  pub before_is : before ≡ stress_along q q.path k
   pub small : sum ≤ most_elongation * k
   pub sum_is : sum ≡ sum_of done
   pub sheet_is : sheet ≡ over done old
-  pub whole : done ++ elongations_from q.Es (stress_along q) k (drop k q.path) ≡ elongations_of q
+  pub whole : done ++ elongations_from q.Es (stress_along q q.path) k (drop k q.path) ≡ elongations_of q
 
 pub none_stretched : (q : Quantities) (old : List ℕ) → Stretching q old old 0 (jacked q) 0 0
 unfolding path_friction
@@ -70,7 +70,7 @@ none_stretched q old = record {
   count = refl;
   within = omega arith;
   friction_is = refl;
-  before_is = sym (jacked_first q);
+  before_is = sym (jacked_first q q.path);
   small = omega arith;
   sum_is = none_summed;
   sheet_is = refl;
@@ -86,12 +86,12 @@ module _ {q : Quantities} {old : List ℕ} (fit : Stretchable q old) where
       let strong = head.ultimate_most in
       omega arith
 
-  along_fits : (j : ℕ) → stress_along q j < stress_limit
+  along_fits : (j : ℕ) → stress_along q q.path j < stress_limit
   along_fits j =
       let top = jacked_fits in
-      omega (arith, stress_left_most (jacked q) (path_friction q.wobble q.curvature (take j q.path)))
+      omega (arith, stress_left_most (jacked q) (friction_of q (take j q.path)))
 
-  part_most : (j : ℕ) → path_friction q.wobble q.curvature (take j q.path) ≤ most_friction
+  part_most : (j : ℕ) → friction_of q (take j q.path) ≤ most_friction
   part_most j = le_trans (friction_of_part q.wobble q.curvature q.path j) fit.friction_most
 
   module _ {sheet : List ℕ} {friction before sum k : ℕ} (stretching : Stretching q old sheet friction before sum k) where
@@ -103,7 +103,8 @@ module _ {q : Quantities} {old : List ℕ} (fit : Stretchable q old) where
 
     pub all_stretched : length q.path ≤ most_segments → drop k q.path ≡ [] → Stretched q sum sheet old
     all_stretched few end =
-        let none : elongations_from q.Es (stress_along q) k (drop k q.path) ≡ [] = no_elongation q.Es (stress_along q) k end in
+        let none : elongations_from q.Es (stress_along q q.path) k (drop k q.path) ≡ [] =
+        no_elongation q.Es (stress_along q q.path) k end in
         let all : stretching.done ≡ elongations_of q =
         sym (append-nil stretching.done) ∙ ap (λ (l : List ℕ). stretching.done ++ l) (sym none) ∙ stretching.whole in
         record {
@@ -129,14 +130,14 @@ module _ {q : Quantities} {old : List ℕ} (fit : Stretchable q old) where
           }
 
       module _ {more : ℕ} (rubbed : more ≡ segment_friction q.wobble q.curvature segment) where
-        friction_is : friction + more ≡ path_friction q.wobble q.curvature (take (suc k) q.path)
+        friction_is : friction + more ≡ friction_of q (take (suc k) q.path)
         friction_is = omega (arith, rubbed, stretching.friction_is, one_segment_more q.wobble q.curvature q.path k next)
 
         pub friction_fits : FrictionFits (jacked q) (friction + more)
         friction_fits = record { stress_fits = jacked_fits; friction_most = rw friction_is (part_most (suc k)) }
 
         module _ {after : ℕ} (is_left : after ≡ stress_left (jacked q) (friction + more)) where
-          after_is : after ≡ stress_along q (suc k)
+          after_is : after ≡ stress_along q q.path (suc k)
           after_is = is_left ∙ rw friction_is
 
           pub elongation_fits : ElongationFits q.Es before after segment.length
@@ -160,7 +161,7 @@ module _ {q : Quantities} {old : List ℕ} (fit : Stretchable q old) where
               let count = stretching.count in
               let smaller = stretching.small in
               let done = stretching.done in
-              let here_is : stretched ≡ elongation q.Es (stress_along q k) (stress_along q (suc k)) segment.length =
+              let here_is : stretched ≡ elongation q.Es (stress_along q q.path k) (stress_along q q.path (suc k)) segment.length =
               is ∙ rw (stretching.before_is, after_is) in
               record {
                 done = done ++ (stretched ∷ []);
@@ -173,5 +174,5 @@ module _ {q : Quantities} {old : List ℕ} (fit : Stretchable q old) where
                 sheet_is =
                     ap (λ (l : List ℕ). set l k stretched) stretching.sheet_is ∙ set_behind done old stretched k count (omega arith);
                 whole = rw (add-one, append_assoc, here_is, ← later_is)
-                    (ap (λ (l : List ℕ). done ++ l) (sym (next_elongation q.Es (stress_along q) k next)) ∙ stretching.whole);
+                    (ap (λ (l : List ℕ). done ++ l) (sym (next_elongation q.Es (stress_along q q.path) k next)) ∙ stretching.whole);
               }

@@ -1,4 +1,4 @@
--- The promise rests on it. The elongation sheet in fractions, and how far the core's lies from it: document 02, W7.
+-- The promise rests on it. The elongation sheet in fractions, and how far the core's lies from it: document 02, W7 and W9.
 use Rattle.std.specs.Prelude.{ℕ, zero, suc, ◌+◌, ◌*◌, ◌<◌, ◌≡◌, List, [], ◌∷◌, length, get_or}
 use Rattle.fraction.specs.Fraction.{Fraction, whole, ◌⊕◌, ◌⊗◌, ◌÷◌, ◌≼◌, Within}
 use Rattle.ticks.specs.Ticks.{ticks_per_unit}
@@ -21,7 +21,7 @@ elongations_from es stress j [] = []
 elongations_from es stress j (segment ∷ segments) =
     elongation es (stress j) (stress (suc j)) segment.length ∷ elongations_from es stress (suc j) segments
 
--- document 02, W3: by any factors that the series allows
+-- document 02, W3: by any factors that the series allows; W9: along the first path
 abbrev pub elongations_by : (ℕ → Fraction) → Quantities → List Fraction
 elongations_by factor q = elongations_from q.Es (stress_along factor q) 0 q.path
 
@@ -71,8 +71,8 @@ pub record Near (factor : ℕ → Fraction) (q : Quantities) (sheet : Sheet) : T
 -- of an accepted sheet
 pub record SheetClose (q : Quantities) (sheet : Sheet) : Type 0 where
   pub count : length sheet.elongations ≡ length q.path
-  pub near : (factor : ℕ → Fraction) → FactorsAlong q factor → Near factor q sheet
+  pub near : (factor : ℕ → Fraction) → FactorsAlong q q.path factor → Near factor q sheet
   -- there are such factors: the sums up to the 15th power
-  pub some_factors : FactorsAlong q (λ j. sum_to powers (exponent_along q j))
+  pub some_factors : FactorsAlong q q.path (λ j. sum_to powers (exponent_along q q.path j))
   pub sum_small : sum_distance (length q.path) ≼ most_distance (length q.path)
   pub measurable_small : measurable_distance (length q.path) ≼ most_distance (length q.path)

@@ -4,7 +4,7 @@ use Rattle.fields.specs.Outcomes.{OrRefusal, over}
 use Rattle.fields.specs.Quantities.{Quantities}
 use Rattle.fields.specs.Limits.{range, most_length, most_friction, most_segments}
 use Rattle.formulas.specs.Conditions.{stress_limit, es_limit}
-use Rattle.member.specs.Member.{friction_of}
+use Rattle.member.specs.Constants.{friction_of}
 use Rattle.member.specs.Checking.{BelowHours}
 use Rattle.elongation.specs.Sheet.{Sheet, SheetAnswer, elongations_of, sum_of, sheet_answer, elongations_written}
 
@@ -23,7 +23,7 @@ most_elongation = 2 ^ 19
 -- of the elongations of a path's segments, and of the buffer that takes them
 pub record Stretchable (q : Quantities) (sheet : List ℕ) : Type 0 where
   pub below_hours : BelowHours q
-  pub friction_most : friction_of q ≤ most_friction
+  pub friction_most : friction_of q q.path ≤ most_friction
   pub room : length q.path ≤ length sheet
 
 -- the sum of the elongations, which are written

@@ -1,5 +1,5 @@
--- The promise rests on it. The elongation sheet: document 02, W7, and document 002, example 1. What it answers, and what it leaves of the
--- lent buffer.
+-- The promise rests on it. The elongation sheet: document 02, W7, and document 002, example 1; of the first path, by W9. What it answers,
+-- and what it leaves of the lent buffer.
 use Rattle.std.specs.Prelude.{ℕ, suc, ◌+◌, ◌*◌, ◌/◌, ◌≡◌, not, List, [], ◌∷◌, ◌++◌, leb, length, Ok, Err}
 use Rattle.ticks.specs.Ticks.{ticks_per_unit}
 use Rattle.fields.specs.declared.refusal.Refusal.{Refusal}
@@ -7,9 +7,9 @@ use Rattle.fields.specs.Outcomes.{OrRefusal, onward, over, Outcome}
 use Rattle.fields.specs.Quantities.{Quantities, is_pretensioned, quantities_read}
 use Rattle.fields.specs.declared.segments.Segment.{Segment}
 use Rattle.fields.specs.Refusals.{acceptance_number, number, place}
-use Rattle.checks.specs.Rows.{CheckRow, row, at, checked_by}
-use Rattle.member.specs.Constants.{stress_along}
-use Rattle.member.specs.Member.{codes_to_hours, duct_row}
+use Rattle.checks.specs.Rows.{CheckRow, row, at, checked_by, kind_row, friction_row}
+use Rattle.member.specs.Constants.{friction_of, stress_along}
+use Rattle.member.specs.Member.{codes_to_hours}
 use Rattle.elongation.specs.declared.Total.{Total}
 
 -- "the mean of the stresses at its ends before slip, times its length over Es, in ticks of inch, rounded down only once": both stresses and
@@ -23,8 +23,9 @@ elongations_from es stress j [] = []
 elongations_from es stress j (segment ∷ segments) =
     elongation es (stress j) (stress (suc j)) segment.length ∷ elongations_from es stress (suc j) segments
 
+-- document 02, W9: "The elongation sheet keeps to the first path"
 abbrev pub elongations_of : Quantities → List ℕ
-elongations_of q = elongations_from q.Es (stress_along q) 0 q.path
+elongations_of q = elongations_from q.Es (stress_along q q.path) 0 q.path
 
 -- "then the sum"
 unfoldable pub sum_of : List ℕ → ℕ
@@ -57,9 +58,11 @@ pretensioned_row q = row (λ p. Refusal.Pretensioned) (at 1 (not (is_pretensione
 abbrev pub room_row : Quantities → ℕ → CheckRow
 room_row q room = row Refusal.Buffers (at 1 (leb (length q.path) room) ∷ [])
 
--- what is checked below the row "hours", in its order
+-- what is checked below the row "hours", in its order; document 02, W9: "The elongation sheet keeps to the first path, for its check 4 too,
+-- and never gives 15"
 abbrev pub below_hours : Quantities → ℕ → List CheckRow
-below_hours q room = pretensioned_row q ∷ duct_row q ∷ room_row q room ∷ []
+below_hours q room =
+    pretensioned_row q ∷ kind_row (is_pretensioned q) (length q.path) ∷ friction_row (friction_of q q.path) ∷ room_row q room ∷ []
 
 -- "the sheet makes the card's checks down to the duct, then" that of the room
 abbrev pub sheet_rows : Quantities → ℕ → List CheckRow

@@ -1,4 +1,4 @@
-// The elongation sheet: how far the strand comes out at the jack, segment by segment of the path. Its one promise is the record
+// The elongation sheet: how far the strand comes out at the first jack, segment by segment of its path. Its one promise is the record
 // `SheetPromise`.
 #![tactic(auto)]
 

@@ -2,15 +2,15 @@
 -- its numbers. Assumes nothing.
 use mathlib.Core.Path.{◌≡◌, refl}
 use mathlib.Core.List.{List, [], ◌∷◌}
-use Prim.Native.Nat.{ℕ, ◌*◌, ◌≤◌}
+use Prim.Native.Nat.{ℕ, ◌*◌}
 use native.Mathlib.Omega.{arith}
 use lib.ListN.{length}
 use Rattle.std.specs.Prelude.{Ok}
 use Rattle.fields.specs.declared.read.Counts.{Counts}
-use Rattle.fields.specs.Quantities.{Quantities, quantities_with}
-use Rattle.fields.specs.Limits.{per_row, most_segments, most_ages}
+use Rattle.fields.specs.Quantities.{Quantities, quantities_of}
+use Rattle.fields.specs.Limits.{per_row}
 use Rattle.fields.specs.Readable.{Readable}
-use Rattle.fields.proofs.Counting.{path_counted, ages_counted}
+use Rattle.fields.proofs.Counting.{Few, few}
 use Rattle.fields.proofs.Onward.{through}
 use Rattle.member.specs.Member.{checked_of}
 use Rattle.member.proofs.Laws.{accepted}
@@ -20,24 +20,18 @@ use Rattle.tolerance.specs.Demand.{Demand3}
 use Rattle.tolerance.proofs.Demand3.{demand_3}
 use Rattle.entries.specs.Answers.{numbers_of_rows}
 
-module _ (counts : Counts) (numbers : List ℕ) (few_segments : counts.segments ≤ most_segments) (few_ages : counts.ages ≤ most_ages) where
-  abbrev q : Quantities
-  q = quantities_with counts numbers
-
-  pub close : (report scratch : ℕ) (given : Report) → result_of q report scratch ≡ Ok given → Demand3 q given
-  close report scratch given e =
-      let run = through (checked_of q report scratch) (λ m. member_result m q.ages) e in
-      let known = accepted q report scratch run.given_is in
-      demand_3 q report scratch (rw (path_counted counts numbers) few_segments)
-      (rw (ages_counted counts numbers) few_ages) known.facts given
-      (rw known.is at run.next_is)
+pub close : (q : Quantities) → Few q → (report scratch : ℕ) (given : Report) → result_of q report scratch ≡ Ok given → Demand3 q given
+close q few report scratch given e =
+    let run = through (checked_of q report scratch) (λ m. member_result m q.ages) e in
+    let known = accepted q report scratch run.given_is in
+    demand_3 q report scratch few known.facts given (rw known.is at run.next_is)
 
 -- ---- the rows of an accepted run
 
-pub row_count : (counts : Counts) (numbers : List ℕ) {q : Quantities} → quantities_with counts numbers ≡ q → Readable counts numbers
+pub row_count : (counts : Counts) (numbers : List ℕ) {q : Quantities} → quantities_of counts numbers ≡ q → Readable counts numbers
     → (report scratch : ℕ) (given : Report) → result_of q report scratch ≡ Ok given → length given.rows ≡ length q.ages
-row_count counts numbers is readable report scratch given =
-    rw (← is) (λ gives. (close counts numbers readable.segments_most readable.ages_most report scratch given gives).linked.rows_count)
+row_count counts numbers {q} is readable report scratch given gives =
+    (close q (few counts numbers is readable) report scratch given gives).linked.rows_count
 
 pub rows_length : (rows : List Row) → length (numbers_of_rows rows) ≡ per_row * length rows
 unfolding numbers_of_rows

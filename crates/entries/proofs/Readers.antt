@@ -7,8 +7,9 @@ use lib.ListN.{length}
 use Rattle.std.specs.Prelude.{Ok, Err}
 use Rattle.fields.specs.declared.refusal.Refusal.{Refusal}
 use Rattle.fields.specs.Outcomes.{Outcome}
-use Rattle.fields.specs.Quantities.{Quantities, quantities_read}
+use Rattle.fields.specs.Quantities.{Quantities, quantities_of, quantities_read}
 use Rattle.fields.specs.Readable.{AcceptedIfRead}
+use Rattle.fields.proofs.Counting.{few_counted}
 use Rattle.fields.proofs.Reading.{of_read}
 use Rattle.stages.specs.Run.{result_of, result_read}
 use Rattle.tolerance.specs.Demand.{Demand3}
@@ -24,7 +25,8 @@ module _ (outcome : Outcome) (accepted : AcceptedIfRead outcome) where
       of_read outcome (λ q. result_of q report scratch ≡ Ok given → Demand3 q given)
       (λ counts e.
       let good = accepted counts e in
-      close counts outcome.numbers good.few_segments good.few_ages report scratch given)
+      let few = few_counted counts outcome.numbers good.few_segments good.few_second good.few_ages in
+      close (quantities_of counts outcome.numbers) few report scratch given)
       q read
 
   pub promised : {q : Quantities} → quantities_read outcome ≡ Ok q → {answer : Answer} {report report_was scratch scratch_was : List ℕ}

@@ -4,7 +4,7 @@ use std::rt::Files;
 use std::{fs, io};
 use text::Program;
 
-const REPORTS: [&str; 19] = [
+const REPORTS: [&str; 20] = [
     // Document 001, design example 1.
     "double_tee.card",
     "double_tee_fpy_230.card",
@@ -29,13 +29,17 @@ const REPORTS: [&str; 19] = [
     // Document 002, example 3: to mid-span, and to the dead end.
     "simple_span_b.card",
     "simple_span_c.card",
+    // Document 002, example 4: pulled from both ends, to the point between them that does not move.
+    "four_spans.card",
 ];
 
-// Document 002, examples 1 and 3: how far each tendon comes out; the third card has the simple span as one segment.
-const SHEETS: [&str; 3] = [
+// Document 002, examples 1, 3 and 4: how far each tendon comes out, of the last from its first end; the third card has the simple span as
+// one segment.
+const SHEETS: [&str; 4] = [
     "box_girder_g.card",
     "simple_span_c.card",
     "simple_span_one_mean.card",
+    "four_spans.card",
 ];
 
 // What a program prints for a card. cards.rt of cases says why it has one like it.

@@ -1,10 +1,12 @@
 -- Parts of the fields, each of so many: how many they are, the first of them and those behind it, and those that are cut out of more
 -- fields. Along the counts. Assumes nothing.
 use mathlib.Core.Path.{◌≡◌, refl, ap, ◌∙◌}
-use mathlib.Core.List.{List, [], ◌∷◌}
+use mathlib.Core.List.{List, [], ◌∷◌, ◌++◌}
 use Prim.Native.Nat.{ℕ, zero, suc, ◌+◌, ◌-◌, ◌*◌, ◌/◌, ◌<◌, ◌≤◌}
+use native.Mathlib.Nat.{zero-add}
 use native.Mathlib.Omega.{arith}
 use lib.ListN.{length, take, drop, length-drop}
+use lib.Seq.{drop-drop}
 use Rattle.std.proofs.Math.Nat.{add-sub_cancel_left, mul-suc, mul-div_cancel_left, div-eq_of_lt, div-eq-sub-div}
 use Rattle.std.proofs.lemmas.List.{drop-take, length-take-le}
 use Rattle.fields.specs.Quantities.{parts_from}
@@ -15,6 +17,19 @@ pub parts_length : {A : Type 0} (width : ℕ) (part_at : List ℕ → A) (count 
 unfolding parts_from
 parts_length width part_at zero fields = refl
 parts_length width part_at (suc count) fields = ap suc (parts_length width part_at count (drop width fields))
+
+-- some parts, and others behind them
+pub parts_append : {A : Type 0} (width : ℕ) (part_at : List ℕ → A) (one other : ℕ) (fields : List ℕ)
+    → parts_from width part_at one fields ++ parts_from width part_at other (drop (width * one) fields)
+    ≡ parts_from width part_at (one + other) fields
+unfolding parts_from
+parts_append width part_at zero other fields =
+    let none : width * 0 ≡ 0 = omega arith in
+    rw (none, zero-add other)
+parts_append width part_at (suc one) other fields =
+    let on : width * suc one ≡ width + width * one = mul-suc width one ∙ (omega arith) in
+    let more : suc one + other ≡ suc (one + other) = omega arith in
+    rw (on, more, ← drop-drop, ← parts_append width part_at one other (drop width fields))
 
 module _ {A : Type 0} (width : ℕ) (part_at : List ℕ → A) where
   pub none_left : (fields : List ℕ) → length fields < width → parts_of width part_at fields ≡ []

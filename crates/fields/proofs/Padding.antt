@@ -5,7 +5,7 @@ use mathlib.Core.List.{List, [], ◌∷◌, ◌++◌}
 use Prim.Native.Nat.{ℕ, zero, suc, ◌+◌, ◌*◌}
 use lib.ListN.{length, get_or, drop, replicate}
 use lib.Seq.{get_or-drop}
-use Rattle.fields.specs.Quantities.{head_fields, per_segment, per_age, segment_at, age_at, parts_from, quantities_with}
+use Rattle.fields.specs.Quantities.{head_fields, per_segment, per_age, segment_at, age_at, parts_from, all_segments, quantities_of}
 use Rattle.fields.specs.declared.read.Counts.{Counts}
 use Rattle.fields.specs.Outcomes.{over}
 
@@ -35,12 +35,14 @@ ages_same : (fields others : List ℕ) → Same fields others → age_at fields 
 ages_same fields others same = simp same
 
 pub same_quantities : (counts : Counts) (fields others : List ℕ) → Same fields others
-    → quantities_with counts fields ≡ quantities_with counts others
+    → quantities_of counts fields ≡ quantities_of counts others
 same_quantities counts fields others same =
-    let first_age = head_fields + per_segment * counts.segments in
+    let second = head_fields + per_segment * counts.segments in
+    let first_age = head_fields + per_segment * all_segments counts in
     simp same
     (rw (
       parts_same per_segment segment_at segments_same counts.segments _ _ (drop_same head_fields fields others same),
+      parts_same per_segment segment_at segments_same counts.second_segments _ _ (drop_same second fields others same),
       parts_same per_age age_at ages_same counts.ages _ _ (drop_same first_age fields others same),
     ))
 

@@ -7,7 +7,8 @@ use native.Mathlib.Omega.{arith}
 use lib.Dec.{eqb}
 use Rattle.fields.specs.declared.refusal.Refusal.{Refusal}
 use Rattle.fields.specs.declared.refusal.Refusal.TheVariants.{Shape, Doubles, Codes, Ranges, Hours, Pretensioned, Duct, Buffers}
-use Rattle.fields.specs.declared.refusal.Refusal.TheVariants.{Section, Creep, AnchorSet, Stress, Overstress}
+use Rattle.fields.specs.declared.refusal.Refusal.TheVariants.{SecondPath, PathLengths, Section, Creep, AnchorSet, Stress}
+use Rattle.fields.specs.declared.refusal.Refusal.TheVariants.{Overstress}
 use Rattle.fields.specs.Refusals.{acceptance_number, number, place}
 
 -- none has the number of what is accepted
@@ -19,6 +20,8 @@ refusal_number (Ranges field) = omega arith
 refusal_number (Hours field) = omega arith
 refusal_number Pretensioned = omega arith
 refusal_number (Duct check) = omega arith
+refusal_number SecondPath = omega arith
+refusal_number PathLengths = omega arith
 refusal_number (Buffers buffer) = omega arith
 refusal_number Section = omega arith
 refusal_number Creep = omega arith
@@ -35,11 +38,13 @@ refusal_by number place =
     (cond (eqb number 3) (Hours place)
     (cond (eqb number 13) Pretensioned
     (cond (eqb number 4) (Duct place)
+    (cond (eqb number 14) SecondPath
+    (cond (eqb number 15) PathLengths
     (cond (eqb number 10) (Buffers place)
     (cond (eqb number 5) Section
     (cond (eqb number 6) Creep
     (cond (eqb number 12) AnchorSet
-    (cond (eqb number 7) (Stress place) (Overstress place))))))))))))
+    (cond (eqb number 7) (Stress place) (Overstress place))))))))))))))
 
 found : (refusal : Refusal) → refusal_by (number refusal) (place refusal) ≡ refusal
 unfolding refusal_by
@@ -50,6 +55,8 @@ found (Ranges field) = refl
 found (Hours field) = refl
 found Pretensioned = refl
 found (Duct check) = refl
+found SecondPath = refl
+found PathLengths = refl
 found (Buffers buffer) = refl
 found Section = refl
 found Creep = refl

@@ -1,6 +1,8 @@
--- The promise rests on it. The limits of documents 01 and 02: of the card's fields, of the hours, and of the refusals.
-use Rattle.std.specs.Prelude.{ℕ, ◌*◌, ◌/◌, ◌^◌, Bool, ◌||◌, [], ltb}
+-- The promise rests on it. The limits of documents 01 and 02: of the card's fields and of its counts, of the hours, and of the refusals.
+use Rattle.std.specs.Prelude.{ℕ, ◌*◌, ◌/◌, ◌^◌, Bool, ◌&&◌, cond, [], leb, Ok, Err}
 use Rattle.ticks.specs.Ticks.{ticks_per_unit, T}
+use Rattle.fields.specs.declared.refusal.Refusal.{Refusal}
+use Rattle.fields.specs.Outcomes.{OrRefusal}
 use Rattle.fields.specs.Quantities.{OfFields}
 
 -- ---- "Fields and ranges"
@@ -12,6 +14,10 @@ pub record Range : Type 0 where
 
 abbrev pub ◌to◌ : ℕ → ℕ → Range
 low to high = record { low = low; high = high }
+
+-- x lies in low..high
+abbrev pub within : ℕ → ℕ → ℕ → Bool
+within low high x = leb low x && leb x high
 
 -- "ultimate strength F 100,000..300,000 psi, 4 jacking stress .. at most 0.80 F", as is the stress after a gain (document 02, W1)
 abbrev pub strengths : Range
@@ -56,6 +62,7 @@ range = record {
   wobble = 0 to 2000;
   curvature = 0 to 400000;
   path = [];
+  second_path = [];
   ages = [];
 }
 
@@ -67,7 +74,7 @@ blank_slip = 384
 abbrev pub least_moist_transfer : ℕ
 least_moist_transfer = 72
 
--- "23 segments s 0..64; 24 ages n" from 3 to 48 (document 02, W6: "The limit becomes 48")
+-- "23 segments s 0..64", and document 02, W9, of field 25: "0..64"; "24 ages n" from 3 to 48 (document 02, W6: "The limit becomes 48")
 abbrev pub most_segments : ℕ
 most_segments = 64
 
@@ -77,8 +84,15 @@ least_ages = 3
 abbrev pub most_ages : ℕ
 most_ages = 48
 
-abbrev pub ages_out_of_range : ℕ → Bool
-ages_out_of_range ages = ltb ages least_ages || ltb most_ages ages
+abbrev pub segment_counts : Range
+segment_counts = 0 to most_segments
+
+abbrev pub age_counts : Range
+age_counts = least_ages to most_ages
+
+-- "the counts in fields 23 and 24 are ranged while the shape is read, giving 2", and W9 of field 25: "it is ranged with fields 23 and 24"
+abbrev pub count_within : ℕ → Range → ℕ → OrRefusal ℕ
+count_within field range count = cond (within range.low range.high count) (Ok count) (Err (Refusal.Ranges field))
 
 -- "1 straight (length 1..2,097,152, rise 0); 2 parabola (length 1,024..2,097,152, rise 0..65,536); 3 bend (length 0, third field the
 -- angle 0..4,096)"
@@ -98,6 +112,10 @@ most_angle = 4096
 
 abbrev pub most_friction : ℕ
 most_friction = 3 * T / 2
+
+-- document 02, W9: "by more than one foot together"
+abbrev pub most_apart : ℕ
+most_apart = 1 * ticks_per_unit
 
 abbrev pub most_kappa : ℕ
 most_kappa = 2 ^ 30

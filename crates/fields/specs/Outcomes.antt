@@ -33,5 +33,5 @@ pub record Outcome : Type 0 where
 abbrev pub refused : Refusal → List ℕ → Outcome
 refused refusal numbers = record { reading = Err refusal; numbers = numbers }
 
-abbrev pub accepted : ℕ → ℕ → List ℕ → Outcome
-accepted segments ages numbers = record { reading = Ok (record { segments = segments; ages = ages }); numbers = numbers }
+abbrev pub accepted : Counts → List ℕ → Outcome
+accepted counts numbers = record { reading = Ok counts; numbers = numbers }

@@ -1,5 +1,6 @@
--- The promise rests on it. Document 01, "The card": how its fields are set and numbered, and the quantities that they are, by name.
-use Rattle.std.specs.Prelude.{ℕ, suc, ◌+◌, ◌*◌, zero, ◌-◌, Bool, List, [], ◌∷◌, eqb, get_or, drop, Ok, Err}
+-- The promise rests on it. Document 01, "The card", and document 02, W9: how the fields are set and numbered, and the quantities that they
+-- are, by name.
+use Rattle.std.specs.Prelude.{ℕ, suc, ◌+◌, ◌*◌, zero, ◌-◌, Bool, List, [], ◌∷◌, ◌++◌, eqb, ltb, length, get_or, drop, Ok, Err}
 use Rattle.fields.specs.declared.read.Counts.{Counts}
 use Rattle.fields.specs.declared.segments.Segment.{Segment}
 use Rattle.fields.specs.declared.segments.Age.{Age}
@@ -9,15 +10,19 @@ use Rattle.fields.specs.Outcomes.{Outcome, OrRefusal}
 abbrev pub columns : ℕ
 columns = 14
 
--- Line 4: "23 segments s .. 24 ages n", the last of the fields of lines 1 to 4
+-- Line 4: "23 segments s .. 24 ages n"; document 02, W9: "Line 4 gains field 25, its count of segments", the second path's, the last of
+-- the fields of lines 1 to 4
 abbrev pub segments_field : ℕ
 segments_field = 23
 
 abbrev pub ages_field : ℕ
 ages_field = 24
 
+abbrev pub second_segments_field : ℕ
+second_segments_field = 25
+
 abbrev pub head_fields : ℕ
-head_fields = ages_field
+head_fields = second_segments_field
 
 -- "s lines: segment kind, length, rise"; "n lines: age in hours, moment added then"
 abbrev pub per_segment : ℕ
@@ -26,18 +31,22 @@ per_segment = 3
 abbrev pub per_age : ℕ
 per_age = 2
 
--- "Fields of segments and ages are numbered on from 25."
+-- document 02, W9: "Its lines follow those of the first path; later fields number on from 26"
 abbrev pub first_segment_field : ℕ
 first_segment_field = suc head_fields
 
+-- behind so many segments, of both paths together
 abbrev pub first_age_field : ℕ → ℕ
 first_age_field segments = first_segment_field + per_segment * segments
 
--- how many fields a card or a list has
-abbrev pub fields_in : ℕ → ℕ → ℕ
-fields_in segments ages = head_fields + per_segment * segments + per_age * ages
+abbrev pub all_segments : Counts → ℕ
+all_segments counts = counts.segments + counts.second_segments
 
--- one thing for each field of "Line 1" to "Line 4" but the counts, with a path and ages
+-- how many fields a card or a list has
+abbrev pub fields_in : Counts → ℕ
+fields_in counts = head_fields + per_segment * all_segments counts + per_age * counts.ages
+
+-- one thing for each field of "Line 1" to "Line 4" but the counts, with the two paths and ages
 pub record OfFields (A : Type 0) : Type 0 where
   pub kind : A
   pub steel : A
@@ -62,6 +71,7 @@ pub record OfFields (A : Type 0) : Type 0 where
   pub wobble : A
   pub curvature : A
   pub path : List Segment
+  pub second_path : List Segment
   pub ages : List Age
 
 -- a card's or a list's quantities
@@ -69,8 +79,8 @@ abbrev pub Quantities : Type 0
 Quantities = OfFields ℕ
 
 -- which field is which, by its number
-abbrev pub quantities_by : (ℕ → ℕ) → List Segment → List Age → Quantities
-quantities_by field path ages = record {
+abbrev pub quantities_by : (ℕ → ℕ) → (path second_path : List Segment) → List Age → Quantities
+quantities_by field path second_path ages = record {
   kind = field 1;
   steel = field 2;
   ultimate_strength = field 3;
@@ -94,20 +104,30 @@ quantities_by field path ages = record {
   wobble = field 21;
   curvature = field 22;
   path = path;
+  second_path = second_path;
   ages = ages;
 }
 
 -- the number of each field, by its name
 abbrev pub field_number : Quantities
-field_number = quantities_by (λ number. number) [] []
+field_number = quantities_by (λ number. number) [] [] []
 
--- "kind (1 pretensioned, ..)", "cure (1 moist, ..)", and the kinds of a segment
+-- "kind (1 pretensioned, ..)", "cure (1 moist, ..)"
 abbrev pub is_pretensioned : Quantities → Bool
 is_pretensioned q = eqb q.kind 1
 
 abbrev pub is_moist : Quantities → Bool
 is_moist q = eqb q.cure 1
 
+-- document 02, W9: "0 means no second path"
+abbrev pub has_second_path : Quantities → Bool
+has_second_path q = ltb 0 (length q.second_path)
+
+-- the segments of both paths, in the order of their fields
+abbrev pub both_paths : Quantities → List Segment
+both_paths q = q.path ++ q.second_path
+
+-- the kinds of a segment
 abbrev pub straight : ℕ
 straight = 1
 
@@ -138,19 +158,16 @@ segments_from count fields = parts_from per_segment segment_at count fields
 abbrev pub ages_from : ℕ → List ℕ → List Age
 ages_from count fields = parts_from per_age age_at count fields
 
--- with so many segments and ages
-abbrev pub quantities_of : ℕ → ℕ → List ℕ → Quantities
-quantities_of segments ages fields =
-    quantities_by (λ number. get_or fields (number - 1) 0) (segments_from segments (drop head_fields fields))
-    (ages_from ages (drop (head_fields + per_segment * segments) fields))
-
--- with the counts that a reader gives
-abbrev pub quantities_with : Counts → List ℕ → Quantities
-quantities_with counts fields = quantities_of counts.segments counts.ages fields
+-- with so many segments on each path, and so many ages
+abbrev pub quantities_of : Counts → List ℕ → Quantities
+quantities_of counts fields =
+    quantities_by (λ number. get_or fields (number - 1) 0) (segments_from counts.segments (drop head_fields fields))
+    (segments_from counts.second_segments (drop (head_fields + per_segment * counts.segments) fields))
+    (ages_from counts.ages (drop (head_fields + per_segment * all_segments counts) fields))
 
 -- what a reader's numbers are, or its refusal
 abbrev pub quantities_in : OrRefusal Counts → List ℕ → OrRefusal Quantities
-quantities_in (Ok counts) fields = Ok (quantities_with counts fields)
+quantities_in (Ok counts) fields = Ok (quantities_of counts fields)
 quantities_in (Err refusal) fields = Err refusal
 
 abbrev pub quantities_read : Outcome → OrRefusal Quantities

@@ -15,6 +15,8 @@ number (Refusal.Ranges field) = 2
 number (Refusal.Hours field) = 3
 number Refusal.Pretensioned = 13
 number (Refusal.Duct place) = 4
+number Refusal.SecondPath = 14
+number Refusal.PathLengths = 15
 number (Refusal.Buffers place) = 10
 number Refusal.Section = 5
 number Refusal.Creep = 6
@@ -22,7 +24,7 @@ number Refusal.AnchorSet = 12
 number (Refusal.Stress age) = 7
 number (Refusal.Overstress age) = 11
 
--- of 13 by document 02, W7: "place 1"
+-- of 13 by document 02, W7: "place 1"; of 14 and 15 by W9: "place 2" and "place 7"
 abbrev pub place : Refusal → ℕ
 place (Refusal.Shape line) = line
 place (Refusal.Doubles field) = field
@@ -31,6 +33,8 @@ place (Refusal.Ranges field) = field
 place (Refusal.Hours field) = field
 place Refusal.Pretensioned = 1
 place (Refusal.Duct p) = p
+place Refusal.SecondPath = 2
+place Refusal.PathLengths = field_number.tendon_length
 place (Refusal.Buffers p) = p
 place Refusal.Section = field_number.area
 place Refusal.Creep = field_number.steel_area

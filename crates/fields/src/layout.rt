@@ -8,8 +8,10 @@ pub const SEGMENTS: usize = places::SEGMENTS + 1;
 
 pub const AGES: usize = places::AGES + 1;
 
+pub const SECOND_SEGMENTS: usize = places::SECOND_SEGMENTS + 1;
+
 // Fields of the first four lines, of a segment and of an age.
-pub const HEAD_FIELDS: usize = AGES;
+pub const HEAD_FIELDS: usize = SECOND_SEGMENTS;
 
 pub const PER_SEGMENT: usize = 3;
 

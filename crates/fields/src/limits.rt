@@ -76,13 +76,18 @@ pub const MOST_WOBBLE: u64 = 2_000;
 
 pub const MOST_CURVATURE: u64 = 400_000;
 
+// Of either path, and of both together.
 pub const MOST_SEGMENTS: usize = 64;
+
+pub const MOST_SEGMENTS_OF_BOTH: usize = MOST_SEGMENTS + MOST_SEGMENTS;
 
 pub const LEAST_AGES: usize = 3;
 
 pub const MOST_AGES: usize = 48;
 
-pub const MOST_FIELDS: usize = HEAD_FIELDS + PER_SEGMENT * MOST_SEGMENTS + PER_AGE * MOST_AGES;
+pub const MOST_FIELDS: usize = HEAD_FIELDS
+    + PER_SEGMENT * MOST_SEGMENTS_OF_BOTH
+    + PER_AGE * MOST_AGES;
 
 // ---- Segments
 
@@ -108,6 +113,9 @@ pub const MOST_MOIST_CURING: u64 = 168;
 
 // 1.5 T
 pub const MOST_FRICTION: u64 = 3 * T / 2;
+
+// A foot, by which the lengths of two paths together may differ from that of the tendon.
+pub const MOST_APART: u64 = TICKS_PER_UNIT;
 
 // 2^30
 pub const MOST_KAPPA: u64 = 1_073_741_824;

@@ -48,6 +48,8 @@ pub const SEGMENTS: usize = 22;
 
 pub const AGES: usize = 23;
 
+pub const SECOND_SEGMENTS: usize = 24;
+
 // Codes stay numbers until row "codes" holds: before it a field may read any number, and the first that is not listed gives the place.
 // Where the code reads one by its number, a line says "a code is a number still".
 pub const PRETENSIONED: u64 = 1;

@@ -1,4 +1,4 @@
-// A segment of the path and an age, as their fields stand on a card or a list.
+// A segment of a path and an age, as their fields stand on a card or a list.
 ghost use Rattle.std.proofs.Common.{rules};
 ghost use Rattle.fields.specs.Quantities.{per_segment, per_age, segment_at, age_at};
 ghost use Rattle.fields.specs.Along.{segment_front, age_front};

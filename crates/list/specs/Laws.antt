@@ -15,7 +15,7 @@ use Rattle.std.specs.Prelude.{Option, Some, None, Ok, Err}
 use Rattle.ticks.proofs.Laws.{ticks_below, whole_below}
 use Rattle.fields.specs.declared.read.Counts.{Counts}
 use Rattle.fields.specs.declared.refusal.Refusal.{Refusal}
-use Rattle.fields.specs.Quantities.{segments_field, ages_field, head_fields}
+use Rattle.fields.specs.Quantities.{segments_field, ages_field, second_segments_field, head_fields, all_segments}
 use Rattle.fields.specs.Outcomes.{OrRefusal, numbers_in, all_read, refused, accepted}
 use Rattle.fields.specs.Readable.{Accepted, AcceptedIfRead}
 use Rattle.list.specs.Lists.{in_ticks, amount_in, amounts_by, amounts_of, with_counts, counts_in, list_outcome}
@@ -62,7 +62,7 @@ below segments field (x ∷ xs) k =
 -- ---- an accepted list
 
 all_accepted : (all : Bool) (counts : Counts) (refusal : Refusal) (numbers : List ℕ) {given : Counts}
-    → (cond all (accepted counts.segments counts.ages numbers) (refused refusal numbers)).reading ≡ Ok given
+    → (cond all (accepted counts numbers) (refused refusal numbers)).reading ≡ Ok given
     → (all ≡ true) × (counts ≡ given)
 all_accepted true counts refusal numbers e = (refl, cc)
 all_accepted false counts refusal numbers e = cc
@@ -76,9 +76,12 @@ number_at (Some n ∷ amounts) (suc k) all h = number_at amounts k (omega arith)
 number_at (None ∷ amounts) k all h = absurd (omega arith)
 
 module _ (list : List Float) (counts : Counts) (counted : Counted list counts)
-    (all : all_read (amounts_of counts.segments 1 list) ≡ true) where
+    (all : all_read (amounts_of (all_segments counts) 1 list) ≡ true) where
+  abbrev kept : ℕ → Bool
+  kept = in_ticks (all_segments counts)
+
   abbrev amounts : List (Option ℕ)
-  amounts = amounts_of counts.segments 1 list
+  amounts = amounts_of (all_segments counts) 1 list
 
   abbrev numbers : List ℕ
   numbers = numbers_in amounts
@@ -87,25 +90,27 @@ module _ (list : List Float) (counts : Counts) (counted : Counted list counts)
   read = eqb-true (length numbers) (length amounts) all
 
   -- a field of the head that is whole has its own number
-  number_is : (k count : ℕ) → k < head_fields → amount_in (in_ticks counts.segments (1 + k)) (get_or list k nan) ≡ Some count
+  number_is : (k count : ℕ) → k < head_fields → amount_in (kept (1 + k)) (get_or list k nan) ≡ Some count
       → get_or numbers k 0 ≡ count
   number_is k count h e =
-      let long = part_length (in_ticks counts.segments) 1 list in
+      let long = part_length kept 1 list in
       let enough = counted.enough in
       let at = number_at amounts k read (omega arith) in
-      let is = part_at (in_ticks counts.segments) 1 list k (omega arith) in
+      let is = part_at kept 1 list k (omega arith) in
       cc
 
   accepted_numbers : Accepted numbers counts
   accepted_numbers =
       record {
-        few_segments = counted.segments_most;
-        enough_ages = counted.ages_least;
-        few_ages = counted.ages_most;
-        count = read ∙ part_length (in_ticks counts.segments) 1 list ∙ counted.shape;
-        segments_field_is = number_is (segments_field - 1) counts.segments (lit< tt) counted.segments_are;
-        ages_field_is = number_is (ages_field - 1) counts.ages (lit< tt) counted.ages_are;
-        below = λ k. let small = below counts.segments 1 list k in omega arith;
+        few_segments = counted.segments.most;
+        enough_ages = counted.ages.least;
+        few_ages = counted.ages.most;
+        few_second = counted.second.most;
+        count = read ∙ part_length kept 1 list ∙ counted.shape;
+        segments_field_is = number_is (segments_field - 1) counts.segments (lit< tt) counted.segments.is;
+        ages_field_is = number_is (ages_field - 1) counts.ages (lit< tt) counted.ages.is;
+        second_field_is = number_is (second_segments_field - 1) counts.second_segments (lit< tt) counted.second.is;
+        below = λ k. let small = below (all_segments counts) 1 list k in omega arith;
       }
 
 -- what is known of a list that is read
@@ -116,6 +121,6 @@ list_accepted list given e = by_counts (counts_in list) refl e
     by_counts : (reading : OrRefusal Counts) → counts_in list ≡ reading → (with_counts reading list).reading ≡ Ok given
         → Accepted (with_counts reading list).numbers given
     by_counts (Ok counts) is e =
-        let all = all_accepted (all_read (amounts_of counts.segments 1 list)) counts _ _ e in
+        let all = all_accepted (all_read (amounts_of (all_segments counts) 1 list)) counts _ _ e in
         rw (all.0, ← all.1) (accepted_numbers list counts (counts_accepted list is) all.0)
     by_counts (Err refusal) is e = cc

@@ -1,8 +1,9 @@
 // The reader of lists of doubles.
 #![tactic(auto)]
 
-ghost use Rattle.std.specs.Prelude.{◌≡◌, ℕ, ◌<◌, ◌≤◌, ◌||◌, ltb, List, length, slice_index_or, Option, IfErr};
-ghost use Rattle.fields.specs.Quantities.{head_fields, per_segment};
+ghost use Rattle.std.specs.Prelude.{◌≡◌, ℕ, ◌<◌, ◌≤◌, List, length, slice_index_or, Option, IfErr};
+ghost use Rattle.fields.specs.Limits.{◌to◌};
+ghost use Rattle.fields.specs.Quantities.{head_fields};
 ghost use Rattle.fields.specs.Outcomes.{over};
 ghost use Rattle.list.specs.Lists.{amounts_of, count_in, counts_in, list_outcome};
 ghost use Rattle.list.specs.Measures.{section_of, entry_of, amounts_of_segment, amounts_of_entry};
@@ -10,10 +11,10 @@ ghost use Rattle.list.specs.Measures.{GivenBy, Written, head_amounts, segments_a
 ghost use Rattle.list.specs.Laws.{list_accepted};
 ghost use Rattle.list.specs.Conditions.{HeadField, SegmentsFit, ListFits};
 
-use fields::layout::{AGES, HEAD_FIELDS, PER_AGE, PER_SEGMENT, SEGMENTS};
+use fields::layout::{AGES, HEAD_FIELDS, PER_AGE, PER_SEGMENT, SECOND_SEGMENTS, SEGMENTS};
 use fields::limits::{LEAST_AGES, MOST_AGES, MOST_FIELDS, MOST_SEGMENTS};
 use fields::places;
-use fields::read::{Counts, Reader};
+use fields::read::{self, Counts, Reader};
 use fields::refusal::Refusal;
 
 // The section's five measures: fields 14 to 18.
@@ -211,17 +212,13 @@ fn read_fields(list: &[f64], segments: usize, fields: &mut [u64]) -> Result<(), 
 fn count(list: &[f64], field: usize, least: usize, most: usize) -> Result<usize, Refusal>
     requires first { 1 ≤ field }
     requires listed { field ≤ length list.now }
-    ensures { result ≡ count_in field (λ count. ltb count least || ltb most count) list.now }
+    ensures { result ≡ count_in field (least to most) list.now }
 {
-    let place = field as u64;
-    let count = ticks::whole_of_double(list[field - 1]).ok_or(Refusal::Doubles(place))? as usize;
-    if !(least..=most).contains(&count) {
-        return Err(Refusal::Ranges(place));
-    }
-    Ok(count)
+    let whole = ticks::whole_of_double(list[field - 1]).ok_or(Refusal::Doubles(field as u64))?;
+    read::count_within(field, least, most, whole)
 }
 
-// The counts of a list of the length that they ask for. Field 23 is decoded and ranged before field 24 is looked at.
+// The counts of a list of the length that they ask for. Each is decoded and ranged before the next is looked at.
 #[tactic(auto, unfolding(crate::specs::Lists::counts_in))]
 fn counts(list: &[f64]) -> Result<Counts, Refusal>
     ensures { result ≡ counts_in list.now }
@@ -231,10 +228,16 @@ fn counts(list: &[f64]) -> Result<Counts, Refusal>
     }
     let segments = count(list, SEGMENTS, 0, MOST_SEGMENTS)?;
     let ages = count(list, AGES, LEAST_AGES, MOST_AGES)?;
-    if list.len() != HEAD_FIELDS + PER_SEGMENT * segments + PER_AGE * ages {
+    let second_segments = count(list, SECOND_SEGMENTS, 0, MOST_SEGMENTS)?;
+    let both = segments + second_segments;
+    if list.len() != HEAD_FIELDS + PER_SEGMENT * both + PER_AGE * ages {
         return Err(Refusal::Shape(0));
     }
-    Ok(Counts { segments, ages })
+    Ok(Counts {
+        segments,
+        ages,
+        second_segments,
+    })
 }
 
 // Lists of doubles, as the core reads them.
@@ -247,7 +250,8 @@ impl Reader for Lists {
 
     fn read(list: &[f64], numbers: &mut [u64; MOST_FIELDS]) -> Result<Counts, Refusal> {
         let counts = counts(list)?;
-        read_fields(list, counts.segments, numbers).map_err(|at| Refusal::Doubles(at as u64 + 1))?;
+        let segments = counts.segments + counts.second_segments;
+        read_fields(list, segments, numbers).map_err(|at| Refusal::Doubles(at as u64 + 1))?;
         Ok(counts)
     }
 

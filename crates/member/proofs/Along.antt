@@ -26,8 +26,5 @@ pub later_fit : {left : List Segment} (segment : Segment) (later : List Segment)
     → SegmentsFit later
 later_fit segment later next fit = later_of (rw next at fit)
 
--- ---- what each loop cites
-
-pub ruleset length_along = (length_most)
-
-pub ruleset friction_along = (first_fits, later_fit)
+-- what the loop cites
+pub ruleset along = (length_most, first_fits, later_fit)

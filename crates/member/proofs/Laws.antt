@@ -14,18 +14,23 @@ use Rattle.fields.specs.declared.segments.Segment.{Segment}
 use Rattle.fields.specs.declared.segments.Age.{Age}
 use Rattle.fields.specs.Outcomes.{onward}
 use Rattle.fields.specs.Quantities.{per_segment, per_age, first_segment_field, first_age_field, bend, Quantities}
-use Rattle.fields.specs.Quantities.{is_pretensioned, is_moist, straight, parabola}
-use Rattle.fields.specs.Limits.{Range, range, most_of_strength, hundredths, most_length, most_moment, least_straight, least_parabola}
+use Rattle.fields.specs.Quantities.{is_pretensioned, is_moist, both_paths, straight, parabola}
+use Rattle.fields.proofs.Laws.{in_range}
+use Rattle.fields.specs.Limits.{Range, range, within, most_of_strength, hundredths, most_length, most_moment, least_straight}
+use Rattle.fields.specs.Limits.{least_parabola}
 use Rattle.fields.specs.Limits.{most_rise, most_angle, least_moist_transfer, most_friction, report_room, scratch_room, most_kappa}
 use Rattle.fields.specs.Limits.{most_creep_of_kappa}
-use Rattle.fields.specs.declared.refusal.Refusal.TheVariants.{Codes, Ranges, Hours, Duct, Buffers, Section, Creep}
+use Rattle.fields.specs.declared.refusal.Refusal.TheVariants.{Codes, Ranges, Hours, Duct, SecondPath, PathLengths, Buffers, Section, Creep}
 use Rattle.checks.specs.Places.{ranges_of_line1, ranges_of_line2, ranges_of_line3, ranges_of_line4}
-use Rattle.checks.specs.Rows.{CheckRow, checked, checked_by, within, head_codes, segment_codes, codes, ranges_of_segments}
-use Rattle.checks.specs.Rows.{ranges_of_moments, ranges, curing_fits, transfer_fits, hours_of_ages, hours, duct, buffers, section, creep}
-use Rattle.checks.proofs.Holding.{Holds, all_hold, part_holds, other_true, asked_true, in_range}
+use Rattle.checks.specs.Rows.{CheckRow, checked, checked_by, head_codes, segment_codes, codes, ranges_of_segments}
+use Rattle.checks.specs.Rows.{ranges_of_moments, ranges, curing_fits, transfer_fits, hours_of_ages, hours, friction_row, buffers, section}
+use Rattle.checks.specs.Rows.{creep}
+use Rattle.checks.proofs.Holding.{Holds, all_hold, part_holds, other_true, asked_true}
 use Rattle.checks.proofs.Cascade.{row_held, given_is, in_parts}
 use Rattle.member.specs.declared.Member.{Member}
-use Rattle.member.specs.Member.{friction_of, kappa_of, creep_of, member_of, codes_to_hours, duct_row, codes_to_duct, buffers_to_creep}
+use Rattle.member.specs.declared.path.Paths.{Paths}
+use Rattle.member.specs.Constants.{friction_of}
+use Rattle.member.specs.Member.{paths_of, kappa_of, creep_of, member_of, codes_to_hours, duct_rows, codes_to_duct, buffers_to_creep}
 use Rattle.member.specs.Member.{checked_of}
 use Rattle.member.specs.Checking.{BelowHours}
 use Rattle.member.specs.Facts.{SegmentFits, SegmentsFit, no_segment, segment_fits, HeadFits, RisingFrom, no_age, rises}
@@ -98,6 +103,13 @@ segments_fit coded ranged (segment ∷ segments) c r =
     (by_kind segment (eqb segment.kind straight) (eqb segment.kind parabola) refl refl c.0 r.0 r.1.0)
     (segments_fit (coded + per_segment) (ranged + per_segment) segments c.1 r.1.1)
 
+-- what fits of both paths fits of each
+each_fits : (one : List Segment) {other : List Segment} → SegmentsFit (one ++ other) → SegmentsFit one × SegmentsFit other
+each_fits [] fit = (no_segment, fit)
+each_fits (segment ∷ segments) (segment_fits first later) =
+    let both = each_fits segments later in
+    (segment_fits first both.0, both.1)
+
 moments_fit : (place before : ℕ) (ages : List Age) → Holds (ranges_of_moments place before ages) → MomentsWithin before ages
 unfolding ranges_of_moments
 moments_fit place before [] h = no_moment
@@ -117,12 +129,12 @@ ages_rise place before (age ∷ ages) h =
 module _ (q : Quantities) where
   record Coded : Type 0 where
     head : Holds (head_codes q)
-    path : Holds (segment_codes first_segment_field q.path)
+    path : Holds (segment_codes first_segment_field (both_paths q))
 
   coded : checked (codes q) ≡ Ok tt → Coded
   unfolding codes
   coded e =
-      let path = segment_codes first_segment_field q.path in
+      let path = segment_codes first_segment_field (both_paths q) in
       let head = part_holds (head_codes q) path e in
       record { head = head.0; path = all_hold path head.1 }
 
@@ -131,14 +143,14 @@ module _ (q : Quantities) where
     line_2 : Holds (ranges_of_line2 q)
     line_3 : Holds (ranges_of_line3 q)
     line_4 : Holds (ranges_of_line4 q)
-    path : Holds (ranges_of_segments first_segment_field q.path)
-    moments : Holds (ranges_of_moments (first_age_field (length q.path)) q.own_weight_moment q.ages)
+    path : Holds (ranges_of_segments first_segment_field (both_paths q))
+    moments : Holds (ranges_of_moments (first_age_field (length (both_paths q))) q.own_weight_moment q.ages)
 
   ranged : checked (ranges q) ≡ Ok tt → Ranged
   unfolding ranges ranges_of_line1 ranges_of_line2 ranges_of_line3 ranges_of_line4
   ranged e =
-      let path = ranges_of_segments first_segment_field q.path in
-      let moments = ranges_of_moments (first_age_field (length q.path)) q.own_weight_moment q.ages in
+      let path = ranges_of_segments first_segment_field (both_paths q) in
+      let moments = ranges_of_moments (first_age_field (length (both_paths q))) q.own_weight_moment q.ages in
       let from_4 = ranges_of_line4 q ++ (path ++ moments) in
       let from_3 = ranges_of_line3 q ++ from_4 in
       let one = part_holds (ranges_of_line1 q) (ranges_of_line2 q ++ from_3) e in
@@ -258,17 +270,20 @@ module _ (q : Quantities) where
       let c = coded q codes_row in
       let r = ranged q ranges_row in
       let h = all_hold (hours q) hours_row in
-      let place = first_age_field (length q.path) in
+      let place = first_age_field (length (both_paths q)) in
+      let paths = segments_fit first_segment_field first_segment_field (both_paths q) c.path r.path in
+      let each = each_fits q.path paths in
       record {
         below_hours = record {
           head = head_fits q c r h.0 h.1.0;
-          segments_fit = segments_fit first_segment_field first_segment_field q.path c.path r.path;
+          segments_fit = each.0;
+          second_fit = each.1;
         };
         ages = ages_rise place q.transfer q.ages h.1.1;
         moments = moments_fit place q.own_weight_moment q.ages r.moments;
       }
 
--- ---- the rows to "hours", and that of the duct: what is known where they hold, and a value is given by those below
+-- ---- the rows to "hours", and those of the duct: what is known where they hold, and a value is given by those below
 
 pub record ToHours {A : Type 0} (q : Quantities) (rows : List CheckRow) (value given : A) : Type 0 where
   pub fields : FieldsFit q
@@ -286,20 +301,22 @@ to_hours q rows value e =
     }
 
 pub record DuctHeld {A : Type 0} (q : Quantities) (rows : List CheckRow) (value given : A) : Type 0 where
-  pub no_path : is_pretensioned q ≡ true → length q.path ≡ 0
-  pub friction_most : friction_of q ≤ most_friction
+  pub friction_most : friction_of q q.path ≤ most_friction
+  pub second_friction_most : friction_of q q.second_path ≤ most_friction
   pub below : checked_by rows value ≡ Ok given
 
 pub duct_held : {A : Type 0} (q : Quantities) (rows : List CheckRow) (value : A) {given : A}
-    → checked_by (duct_row q ∷ rows) value ≡ Ok given → DuctHeld q rows value given
+    → checked_by (duct_rows q ++ rows) value ≡ Ok given → DuctHeld q rows value given
 duct_held q rows value e =
-    let ducted = duct (is_pretensioned q) (length q.path) (friction_of q) in
-    let duct_row_held = row_held Duct ducted _ value e in
-    let d = all_hold ducted duct_row_held.holds in
+    let kind = row_held Duct _ _ value e in
+    let second = row_held (λ place. SecondPath) _ _ value kind.below in
+    let rubbed = row_held Duct (friction_row (friction_of q q.path)).checks _ value second.below in
+    let second_rubbed = row_held Duct (friction_row (friction_of q q.second_path)).checks _ value rubbed.below in
+    let lengths = row_held (λ place. PathLengths) _ _ value second_rubbed.below in
     record {
-      no_path = λ k. eqb-true (length q.path) 0 (asked_true (is_pretensioned q) (eqb (length q.path) 0) d.0 k);
-      friction_most = leb-true (friction_of q) most_friction d.1.0;
-      below = duct_row_held.below;
+      friction_most = leb-true (friction_of q q.path) most_friction (all_hold _ rubbed.holds).0;
+      second_friction_most = leb-true (friction_of q q.second_path) most_friction (all_hold _ second_rubbed.holds).0;
+      below = lengths.below;
     }
 
 -- ---- what the code of the rows knows on its way down
@@ -308,15 +325,15 @@ pub below_hours : (q : Quantities) → checked_by (codes_to_hours q) (tt {0}) �
 below_hours q e = (to_hours q [] (tt {0}) e).fields.below_hours
 
 pub to_duct : (q : Quantities)
-    → checked_by (codes_to_duct q) (friction_of q)
-    ≡ onward (checked_by (codes_to_hours q) (tt {0})) (λ held. checked_by (duct_row q ∷ []) (friction_of q))
-to_duct q = in_parts (codes_to_hours q) (duct_row q ∷ []) (tt {0}) (friction_of q)
+    → checked_by (codes_to_duct q) (paths_of q)
+    ≡ onward (checked_by (codes_to_hours q) (tt {0})) (λ held. checked_by (duct_rows q) (paths_of q))
+to_duct q = in_parts (codes_to_hours q) (duct_rows q) (tt {0}) (paths_of q)
 
-pub below_duct : (q : Quantities) {friction : ℕ} → checked_by (codes_to_duct q) (friction_of q) ≡ Ok friction → BelowHours q
-below_duct q e = (to_hours q (duct_row q ∷ []) (friction_of q) e).fields.below_hours
+pub below_duct : (q : Quantities) {paths : Paths} → checked_by (codes_to_duct q) (paths_of q) ≡ Ok paths → BelowHours q
+below_duct q e = (to_hours q (duct_rows q) (paths_of q) e).fields.below_hours
 
-pub friction_given : (q : Quantities) {friction : ℕ} → checked_by (codes_to_duct q) (friction_of q) ≡ Ok friction → friction ≡ friction_of q
-friction_given q = given_is (codes_to_duct q) (friction_of q)
+pub paths_given : (q : Quantities) {paths : Paths} → checked_by (codes_to_duct q) (paths_of q) ≡ Ok paths → paths ≡ paths_of q
+paths_given q = given_is (codes_to_duct q) (paths_of q)
 
 pub by_rows : (q : Quantities) (report scratch : ℕ)
     → checked_of q report scratch ≡ checked_by (codes_to_duct q ++ buffers_to_creep q report scratch) (member_of q)
@@ -325,9 +342,9 @@ by_rows q report scratch = refl
 
 pub to_creep : (q : Quantities) (report scratch : ℕ)
     → checked_of q report scratch
-    ≡ onward (checked_by (codes_to_duct q) (friction_of q)) (λ friction. checked_by (buffers_to_creep q report scratch) (member_of q))
+    ≡ onward (checked_by (codes_to_duct q) (paths_of q)) (λ paths. checked_by (buffers_to_creep q report scratch) (member_of q))
 to_creep q report scratch =
-    by_rows q report scratch ∙ in_parts (codes_to_duct q) (buffers_to_creep q report scratch) (friction_of q) (member_of q)
+    by_rows q report scratch ∙ in_parts (codes_to_duct q) (buffers_to_creep q report scratch) (paths_of q) (member_of q)
 
 -- ---- an accepted member
 
@@ -340,7 +357,7 @@ pub accepted : (q : Quantities) (report scratch : ℕ) {m : Member} → checked_
     → AcceptedMember q report scratch m
 accepted q report scratch e =
     let value = member_of q in
-    let top = to_hours q (duct_row q ∷ buffers_to_creep q report scratch) value (sym (by_rows q report scratch) ∙ e) in
+    let top = to_hours q (duct_rows q ++ buffers_to_creep q report scratch) value (sym (by_rows q report scratch) ∙ e) in
     let ducted = duct_held q (buffers_to_creep q report scratch) value top.below in
     let known = top.fields in
     let lent = buffers (length q.ages) report scratch in
@@ -355,10 +372,11 @@ accepted q report scratch e =
       facts = record {
         head = known.below_hours.head;
         segments_fit = known.below_hours.segments_fit;
+        second_fit = known.below_hours.second_fit;
         ages_rise = known.ages;
         moments_fit = known.moments;
-        no_path = ducted.no_path;
         friction_most = ducted.friction_most;
+        second_friction_most = ducted.second_friction_most;
         report_room_fits = leb-true (report_room (length q.ages)) report b.0;
         scratch_room_fits = leb-true (scratch_room (length q.ages)) scratch b.1.0;
         kappa_most = leb-true (kappa_of q) most_kappa s.0;

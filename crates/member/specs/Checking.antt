@@ -6,3 +6,4 @@ use Rattle.member.specs.Facts.{SegmentsFit, HeadFits}
 pub record BelowHours (q : Quantities) : Type 0 where
   pub head : HeadFits q
   pub segments_fit : SegmentsFit q.path
+  pub second_fit : SegmentsFit q.second_path

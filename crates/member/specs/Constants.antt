@@ -1,5 +1,5 @@
--- The promise rests on it. κ, U and S; X and the length of the path, and the stress along it: document 01, "Steps", first lines and
--- 1, and document 02, W3 and W5.
+-- The promise rests on it. κ, U and S; X and the length of a path, and the stress along it: document 01, "Steps", first lines and 1, and
+-- document 02, W3, W5 and W9.
 use Rattle.std.specs.Prelude.{ℕ, ◌+◌, ◌*◌, ◌/◌, ◌^◌, cond, List, [], ◌∷◌, eqb, take}
 use Rattle.ticks.specs.Ticks.{ticks_per_unit, T}
 use Rattle.fields.specs.declared.segments.Segment.{Segment}
@@ -66,6 +66,11 @@ path_length (segment ∷ segments) = segment.length + path_length segments
 abbrev pub jacked : Quantities → ℕ
 jacked q = q.jacking_stress * ticks_per_unit
 
--- "the stress after j segments takes X of the first j"; after none X is 0 and the factor T, so that it is the jacking stress
-abbrev pub stress_along : Quantities → ℕ → ℕ
-stress_along q j = stress_left (jacked q) (path_friction q.wobble q.curvature (take j q.path))
+-- X of a member's path, or of a part of it
+abbrev pub friction_of : Quantities → List Segment → ℕ
+friction_of q path = path_friction q.wobble q.curvature path
+
+-- "the stress after j segments takes X of the first j", along either path; after none X is 0 and the factor T, so that it is the jacking
+-- stress
+abbrev pub stress_along : Quantities → List Segment → ℕ → ℕ
+stress_along q path j = stress_left (jacked q) (friction_of q (take j path))

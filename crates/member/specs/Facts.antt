@@ -8,7 +8,8 @@ use Rattle.fields.specs.Quantities.{parabola}
 use Rattle.fields.specs.Limits.{range, most_of_strength, hundredths, most_length, most_moment, least_straight, least_parabola, most_rise}
 use Rattle.fields.specs.Limits.{most_angle, least_moist_transfer, most_segments, most_friction, report_room, scratch_room, most_kappa}
 use Rattle.fields.specs.Limits.{most_creep_of_kappa}
-use Rattle.member.specs.Member.{friction_of, kappa_of, creep_of}
+use Rattle.member.specs.Constants.{friction_of}
+use Rattle.member.specs.Member.{kappa_of, creep_of}
 
 -- ---- segments
 
@@ -139,10 +140,11 @@ pub data MomentsWithin : ℕ → List Age → Type 0 where
 pub record Facts (q : Quantities) (report scratch : ℕ) : Type 0 where
   pub head : HeadFits q
   pub segments_fit : SegmentsFit q.path
+  pub second_fit : SegmentsFit q.second_path
   pub ages_rise : RisingFrom q.transfer q.ages
   pub moments_fit : MomentsWithin q.own_weight_moment q.ages
-  pub no_path : is_pretensioned q ≡ true → length q.path ≡ 0
-  pub friction_most : friction_of q ≤ most_friction
+  pub friction_most : friction_of q q.path ≤ most_friction
+  pub second_friction_most : friction_of q q.second_path ≤ most_friction
   pub report_room_fits : report_room (length q.ages) ≤ report
   pub scratch_room_fits : scratch_room (length q.ages) ≤ scratch
   pub kappa_most : kappa_of q ≤ most_kappa

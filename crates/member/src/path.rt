@@ -1,16 +1,27 @@
-// X, the friction of a path, and its length.
+// The paths of a tendon: X, the friction of each, and its length.
 ghost use Rattle.std.specs.Prelude.{◌≡◌};
 ghost use Rattle.fields.specs.Along.{segments_of};
 ghost use Rattle.fields.specs.Limits.{range};
-ghost use Rattle.member.specs.Constants.{wobble_part, curvature_part, segment_friction, path_friction};
-ghost use Rattle.member.specs.Constants.{path_length};
-ghost use Rattle.member.specs.Facts.{PartFits, SegmentFrictionFits, PathFits, PathFrictionFits, most_part};
-ghost use Rattle.member.specs.Facts.{most_segment_friction, AtMost};
+ghost use Rattle.member.specs.Constants.{wobble_part, curvature_part, segment_friction, path_friction, path_length};
+ghost use Rattle.member.specs.Facts.{PartFits, SegmentFrictionFits, PathFrictionFits, most_part, most_segment_friction, AtMost};
 
 use fields::parts::Parts;
 use fields::places;
 use fields::segments::Segment;
 use ticks::{T, TICKS_PER_UNIT};
+
+#[derive(Clone, Copy)]
+pub struct Path {
+    pub friction: u64,
+    pub length: u64,
+}
+
+// The path from the first jack, and the one from the far end, if the tendon is pulled there too.
+#[derive(Clone, Copy)]
+pub struct Paths {
+    pub first: Path,
+    pub second: Option<Path>,
+}
 
 const MILLION: u64 = 1_000_000;
 
@@ -41,28 +52,18 @@ pub fn segment_friction(wobble: u64, curvature: u64, segment: Segment) -> u64
     wobble_part(wobble, segment) + curvature_part(curvature, segment)
 }
 
-// X of a path.
-#[tactic(auto, using(crate::proofs::Along::friction_along), unfolding(crate::specs::Constants::path_friction))]
-pub fn path_friction(path: Parts<Segment>, wobble: u64, curvature: u64) -> u64
+// A path by its segments.
+#[tactic(auto, using(crate::proofs::Along::along), unfolding(crate::specs::Constants::path_friction, crate::specs::Constants::path_length))]
+pub(crate) fn path_of(path: Parts<Segment>, wobble: u64, curvature: u64) -> Path
     requires { PathFrictionFits wobble curvature (segments_of path.fields.now) }
-    ensures { result ≡ path_friction wobble curvature (segments_of path.entry.fields.now) }
+    ensures friction { result.friction ≡ path_friction wobble curvature (segments_of path.entry.fields.now) }
+    ensures length { result.length ≡ path_length (segments_of path.entry.fields.now) }
 {
     let mut friction = 0u64;
-    for (_, segment) in path {
-        friction += segment_friction(wobble, curvature, segment);
-    }
-    friction
-}
-
-// The length of a path.
-#[tactic(auto, using(crate::proofs::Along::length_along), unfolding(crate::specs::Constants::path_length))]
-pub fn path_length(path: Parts<Segment>) -> u64
-    requires { PathFits (segments_of path.fields.now) }
-    ensures { result ≡ path_length (segments_of path.entry.fields.now) }
-{
     let mut length = 0u64;
     for (_, segment) in path {
+        friction += segment_friction(wobble, curvature, segment);
         length += segment.length;
     }
-    length
+    Path { friction, length }
 }

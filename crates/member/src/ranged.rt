@@ -1,11 +1,12 @@
-// Fields for which the rows from "codes" to "hours" hold, and what is made of them: κ, U, S, the hours and the member.
+// Fields for which the rows from "codes" to "hours" hold, and what is made of them: the paths, κ, U, S, the hours and the member.
 ghost use Rattle.std.specs.Prelude.{◌≡◌};
 ghost use Rattle.fields.specs.Quantities.{Quantities};
 ghost use Rattle.member.specs.Facts.{most_creep, AtMost};
-ghost use Rattle.member.specs.Member.{hours_of, friction_of, kappa_of, creep_of, shrinkage_of, member_of};
+ghost use Rattle.member.specs.Member.{hours_of, path_of, second_path_of, paths_of, kappa_of, creep_of, shrinkage_of, member_of};
 ghost use Rattle.member.specs.Checking.{BelowHours};
 
-use crate::{Member, codes, path, section};
+use crate::path::{self, Path, Paths};
+use crate::{Member, codes, section};
 use coefficient::clocks::MemberHours;
 use fields::places;
 use fields::read::Fields;
@@ -25,6 +26,40 @@ impl<'a> Model for Ranged<'a> {
 }
 
 impl<'a> Ranged<'a> {
+    // The path from the first jack.
+    #[tactic(auto, using(fields::proofs::Counting::few_segments))]
+    pub fn first_path(&self) -> Path
+        ensures { result ≡ path_of self.now self.now.path }
+    {
+        let fields = self.fields;
+        let wobble = fields.numbers[places::WOBBLE];
+        let curvature = fields.numbers[places::CURVATURE];
+        path::path_of(fields.path(), wobble, curvature)
+    }
+
+    // The second path, from the far end, if there is one.
+    #[tactic(auto, using(fields::proofs::Counting::few_second_segments))]
+    fn second_path(&self) -> Option<Path>
+        ensures { result ≡ second_path_of self.now }
+    {
+        let fields = self.fields;
+        if !fields.has_second_path() {
+            return None;
+        }
+        let wobble = fields.numbers[places::WOBBLE];
+        let curvature = fields.numbers[places::CURVATURE];
+        Some(path::path_of(fields.second_path(), wobble, curvature))
+    }
+
+    pub(crate) fn paths(&self) -> Paths
+        ensures { result ≡ paths_of self.now }
+    {
+        Paths {
+            first: self.first_path(),
+            second: self.second_path(),
+        }
+    }
+
     pub(crate) fn kappa(&self) -> u64
         ensures { result ≡ kappa_of self.now }
     {
@@ -71,9 +106,9 @@ impl<'a> Ranged<'a> {
     }
 
     // The member, of the three that the rows are asked of too.
-    #[tactic(auto, using(fields::proofs::Counting::few_segments), unfolding(crate::specs::Member::member_of))]
-    pub(crate) fn member(&self, friction: u64, kappa: u64, creep: u64) -> Member
-        requires friction_is { friction ≡ friction_of self.now }
+    #[tactic(auto, unfolding(crate::specs::Member::member_of))]
+    pub(crate) fn member(&self, paths: Paths, kappa: u64, creep: u64) -> Member
+        requires paths_are { paths ≡ paths_of self.now }
         requires kappa_is { kappa ≡ kappa_of self.now }
         requires creep_is { creep ≡ creep_of self.now }
         ensures { result ≡ member_of self.now }
@@ -93,8 +128,7 @@ impl<'a> Ranged<'a> {
             inertia: fields.numbers[places::INERTIA],
             eccentricity: fields.numbers[places::ECCENTRICITY],
             own_weight_moment: fields.numbers[places::OWN_WEIGHT_MOMENT],
-            friction,
-            path_length: path::path_length(fields.path()),
+            paths,
             kappa,
             creep,
             shrinkage: self.shrinkage(),

@@ -4,11 +4,11 @@
 use mathlib.Core.Path.{◌≡◌, refl, sym, ap, ◌∙◌}
 use mathlib.Core.Bool.{Bool, true, false, false≢true, cond}
 use mathlib.Core.List.{List, [], ◌∷◌, ◌++◌, map}
-use Prim.Native.Nat.{ℕ, zero, suc, ◌-◌, min, ◌<◌}
+use Prim.Native.Nat.{ℕ, zero, suc, ◌-◌, min, ◌≤◌, ◌<◌}
 use native.Mathlib.Nat.{le_of_lt, suc-min-suc, zero-min, min-zero, min-le_right}
 use native.Mathlib.Omega.{arith}
-use borrow.Author.Tests.{le-ltb, ne_eqb, ltb-false, leb-true, leb-false}
-use lib.Dec.{leb, ltb, lit<}
+use borrow.Author.Tests.{le-ltb, ne_eqb, leb-true, leb-false}
+use lib.Dec.{leb, lit<}
 use lib.Ieee.{Float, nan, inf, fin, binary64, nan_bits, is_nan, of_bits}
 use lib.Ieee.Bits.{nan_bits_is}
 use lib.Ieee.Fits.{inf-fits, nan-fits}
@@ -18,15 +18,12 @@ use Rattle.std.specs.Prelude.{Some, None, Ok, Err}
 use Rattle.std.specs.Option.{unwrap_or}
 use Rattle.ticks.proofs.Laws.{refused}
 use Rattle.fields.specs.declared.read.Counts.{Counts}
-use Rattle.fields.specs.declared.refusal.Refusal.TheVariants.{Shape}
-use Rattle.fields.specs.Quantities.{segments_field, ages_field, head_fields, fields_in}
-use Rattle.fields.specs.Limits.{most_segments, ages_out_of_range}
+use Rattle.fields.specs.Quantities.{segments_field, ages_field, second_segments_field, head_fields, all_segments, fields_in}
+use Rattle.fields.specs.Limits.{most_segments, most_ages, segment_counts, age_counts}
 use Rattle.fields.specs.Sizes.{most_fields}
 use Rattle.fields.specs.Outcomes.{OrRefusal, onward}
-use Rattle.fields.proofs.Laws.{ages_in_range}
-use Rattle.list.specs.Lists.{whole_in, amount_in, in_ticks, amounts_of, field_in, count_in, shaped, counts_in, with_counts, list_outcome}
-use Rattle.list.specs.Lists.{amounts_by}
-use Rattle.list.specs.Counted.{counted}
+use Rattle.list.specs.Lists.{amount_in, in_ticks, amounts_by, amounts_of, count_in, shaped, counts_in, with_counts, list_outcome}
+use Rattle.list.specs.Counted.{counted_in, counts_accepted}
 use Rattle.numbers.specs.Numbers.{bytes_per_number, room, numbers_from, doubles_of}
 use Rattle.numbers.specs.ReadDoubles.{stands_for, most_doubles}
 
@@ -71,6 +68,7 @@ same_counts numbers =
       length-map numbers (of_bits binary64),
       same_count numbers (segments_field - 1),
       same_count numbers (ages_field - 1),
+      same_count numbers (second_segments_field - 1),
     )
 
 same_doubles : (numbers : List ℕ) → list_outcome (map stands_for numbers) ≡ list_outcome (map (of_bits binary64) numbers)
@@ -79,44 +77,48 @@ same_doubles numbers = by (counts_in (map stands_for numbers)) ∙ rw (same_coun
   where
     by : (reading : OrRefusal Counts) → with_counts reading (map stands_for numbers) ≡ with_counts reading (map (of_bits binary64) numbers)
     by (Err refusal) = refl
-    by (Ok counts) = let s = counts.segments in rw (same_amounts s 1 numbers)
+    by (Ok counts) = rw (same_amounts (all_segments counts) 1 numbers)
 
 -- ---- the first doubles, one more than a list can have fields
 
--- what the counts of a list of more doubles than a list can have fields give
-abbrev too_long : OrRefusal ℕ → OrRefusal ℕ → OrRefusal Counts
-too_long segments ages = onward segments (λ s. onward ages (λ n. Err (Shape 0)))
+-- what follows is alike where it is alike for all that can be given
+alike : {A B : Type 0} (given : OrRefusal A) {next other : A → OrRefusal B}
+    → ((value : A) → given ≡ Ok value → next value ≡ other value) → onward given next ≡ onward given other
+alike (Ok value) same = same value refl
+alike (Err refusal) same = refl
 
-abbrev segments_in : List Float → OrRefusal ℕ
-segments_in list = count_in segments_field (ltb most_segments) list
+module _ (front list : List Float) (front_long : most_fields < length front) (long : most_fields < length list)
+    (same : (k : ℕ) → k < head_fields → get_or front k nan ≡ get_or list k nan) where
+  -- no counts in their ranges ask for so many
+  misshaped : (counts : Counts) → counts.segments ≤ most_segments → counts.ages ≤ most_ages → counts.second_segments ≤ most_segments
+      → shaped (length front) counts ≡ shaped (length list) counts
+  misshaped counts segments ages second =
+      rw (
+        ne_eqb (length front) (fields_in counts) (λ e. omega arith),
+        ne_eqb (length list) (fields_in counts) (λ e. omega arith),
+      )
 
-abbrev ages_in : List Float → OrRefusal ℕ
-ages_in list = count_in ages_field ages_out_of_range list
-
-module _ (list : List Float) (long : most_fields < length list) where
-  misshaped : (s n : ℕ) → segments_in list ≡ Ok s → ages_in list ≡ Ok n → shaped (length list) s n ≡ Err (Shape 0)
-  misshaped s n segments ages =
-      let few =
-      ltb-false most_segments s (counted segments_field (ltb most_segments) (whole_in (field_in segments_field list)) segments).1 in
-      let ranged = ages_in_range n (counted ages_field ages_out_of_range (whole_in (field_in ages_field list)) ages).1 in
-      rw (ne_eqb (length list) (fields_in s n) (λ e. omega arith))
-
-  too_long_is : counts_in list ≡ too_long (segments_in list) (ages_in list)
+  counts_alike : counts_in front ≡ counts_in list
   unfolding counts_in
-  too_long_is = rw (le-ltb (length list) head_fields (omega arith)) (by (segments_in list) (ages_in list) refl refl)
-    where
-      by : (segments ages : OrRefusal ℕ) → segments_in list ≡ segments → ages_in list ≡ ages
-          → onward segments (λ s. onward ages (shaped (length list) s)) ≡ too_long segments ages
-      by (Err refusal) ages e f = refl
-      by (Ok s) (Err refusal) e f = refl
-      by (Ok s) (Ok n) e f = misshaped s n e f
+  counts_alike =
+      rw (
+        le-ltb (length front) head_fields (omega arith),
+        le-ltb (length list) head_fields (omega arith),
+        same (segments_field - 1) (lit< tt),
+        same (ages_field - 1) (lit< tt),
+        same (second_segments_field - 1) (lit< tt),
+      )
+      (alike (count_in segments_field segment_counts list) (λ segments s.
+      alike (count_in ages_field age_counts list) (λ ages n.
+      alike (count_in second_segments_field segment_counts list) (λ second t.
+      misshaped _ (counted_in segments_field segment_counts list s).most (counted_in ages_field age_counts list n).most
+      (counted_in second_segments_field segment_counts list t).most))))
 
 -- such a list has no fields
-none_read : (segments ages : OrRefusal ℕ) (list other : List Float)
-    → with_counts (too_long segments ages) list ≡ with_counts (too_long segments ages) other
-none_read (Err refusal) ages list other = refl
-none_read (Ok s) (Err refusal) list other = refl
-none_read (Ok s) (Ok n) list other = refl
+none_read : (front list : List Float) → most_fields < length list → (reading : OrRefusal Counts) → counts_in list ≡ reading
+    → with_counts reading front ≡ with_counts reading list
+none_read front list long (Ok counts) e = let counted = counts_accepted list e in absurd (omega arith)
+none_read front list long (Err refusal) e = refl
 
 first_doubles : (list : List Float) → list_outcome (take most_doubles list) ≡ list_outcome list
 unfolding list_outcome
@@ -129,14 +131,9 @@ first_doubles list = by (leb most_doubles (length list)) refl
         let many = leb-true most_doubles (length list) e in
         let front = take most_doubles list in
         let size = length-take-le most_doubles list many in
-        let same : (k : ℕ) → k < most_doubles → get_or front k nan ≡ get_or list k nan = λ k h. get_or-take most_doubles list k nan h in
-        rw (
-          too_long_is front (omega arith),
-          too_long_is list (omega arith),
-          same (segments_field - 1) (lit< tt),
-          same (ages_field - 1) (lit< tt),
-        )
-        (none_read (segments_in list) (ages_in list) front list)
+        let same : (k : ℕ) → k < head_fields → get_or front k nan ≡ get_or list k nan =
+        λ k h. get_or-take most_doubles list k nan (omega arith) in
+        rw (counts_alike front list (omega arith) (omega arith) same) (none_read front list (omega arith) (counts_in list) refl)
 
 -- ---- together, over the bytes
 

@@ -1,2 +1,4 @@
-pub mod Marked
-pub mod Slip
+mod Marked
+mod Slip
+mod Inserted
+mod OnePath

@@ -1,9 +1,11 @@
--- The theorem `marked`: document 01's marked readings and edges, all of them, the edges of document 02's 11, 12 and 13, an elongation sheet
--- and two members by two gauges. Each is computed from the definitions, unfolded down to arithmetic, but for the drop at the jack, which is
--- found by its two squares. Assumes nothing.
+-- The theorem `marked`: document 01's marked readings and edges, all of them, the edges of document 02's 11 to 15, an elongation sheet, two
+-- members by two gauges and members of two paths. Each is computed from the definitions, unfolded down to arithmetic, but for the drop at
+-- the jack, which is found by its two squares. Assumes nothing.
 use Prim.Native.Nat.{◌+◌, ◌-◌, ◌*◌}
 use mathlib.Core.Path.{◌≡◌, refl, sym}
 use mathlib.Core.List.{[], ◌∷◌}
+use native.Mathlib.Nat.{le_of_eq}
+use borrow.Author.Tests.{le-leb}
 use lib.Dec.{leb→le, lit≤}
 use lib.ListN.{get_or}
 use Rattle.formulas.proofs.Drop.{one_drop}
@@ -25,14 +27,15 @@ use Rattle.stages.specs.Run.{member_result}
 use Rattle.elongation.specs.Sheet.{elongations_from, sum_of, sheet_result}
 use Rattle.text.specs.Columns.{first_columns}
 use Rattle.text.specs.Text.{ages_text, elongations_text, text_of}
-use Rattle.readings.specs.Readings.{Marked, with_anchor_set, sample_lines, lines_of, fields_of, hourly, number_and_place, result_of_card, with_ages}
-use Rattle.readings.specs.Readings.{double0153, half_apart}
+use Rattle.readings.specs.Readings.{Marked, with_anchor_set, sample_lines, sample_counts, lines_of, fields_of, hourly, number_and_place}
+use Rattle.readings.specs.Readings.{result_of_card, with_ages, double0153, half_apart}
 
 -- what opens every definition that a reading is computed by, but the drop at the jack
 unfoldable computed : Unit {0}
-unfolding first_columns ages_text elongations_text text_of lines_of fields_of hourly card_outcome digits_of spaces_in round to_bits list_outcome counts_in amounts_by
-    whole_of ticks_of magnitude numbers_in parts_from checked_of checked codes ranges hours segment_codes ranges_of_segments ranges_of_moments
-    hours_of_ages member_result logarithm scf ssf mcf ucr ush creep_share shrinkage_share path_friction path_length factor sheet_result elongations_from sum_of
+unfolding first_columns ages_text elongations_text text_of lines_of fields_of hourly card_outcome digits_of spaces_in round to_bits
+    list_outcome counts_in amounts_by whole_of ticks_of magnitude numbers_in parts_from checked_of checked codes ranges hours segment_codes
+    ranges_of_segments ranges_of_moments hours_of_ages member_result logarithm scf ssf mcf ucr ush creep_share shrinkage_share path_friction
+    path_length factor sheet_result elongations_from sum_of
 computed = tt
 
 -- in a declaration of its own: with a wrong limit the card of one age more would run too, and one may not take the steps of both
@@ -103,13 +106,30 @@ marked = record {
     one_read = refl;
     other_read = refl;
     gauges = record {
-      field = λ number. get_or (fields_of sample_lines) (number - 1) 0;
-      path = [];
-      ages = (quantities_of 0 3 (fields_of sample_lines)).ages;
+      common = record {
+        field = λ number. get_or (fields_of sample_lines) (number - 1) 0;
+        path = [];
+        second_path = [];
+        ages = (quantities_of sample_counts (fields_of sample_lines)).ages;
+      };
       one_is = refl;
       other_is = refl;
-      over_the_tendon = refl;
+      over_the_tendon = record { first = refl; second = refl };
     };
   };
   gauges_pass = refl;
+  second_goes_on = refl;
+  first_goes_on = refl;
+  first_if_equal = λ first second equal. rw (le-leb second.stress first.stress (le_of_eq (sym equal))) refl;
+  twelve_of_first = λ m path second refused. rw refused refl;
+  twelve_of_second = λ m path second slip given refused. rw (given, refused) refl;
+  seven_of_one = λ m path refusal refused. rw refused refl;
+  path_refused_with_4 = refl;
+  second_refused_with_14 = refl;
+  second_refused_with_4 = refl;
+  foot_more = refl;
+  past_a_foot_more = refl;
+  foot_less = refl;
+  past_a_foot_less = refl;
+  sheet_of_first = refl;
 }

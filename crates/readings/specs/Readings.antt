@@ -1,7 +1,8 @@
 -- The theorem `marked` rests on it. The readings that document 01 marks ★, and its edges, in the order of its "Sample beam"; the edges of
--- document 02's 11, 12 and 13, the elongation sheet of document 002's example 1, and two members whose gauges differ by a psi: one list of
--- what the definitions of the other crates give, to be held beside the papers.
-use Rattle.std.specs.Prelude.{ℕ, zero, suc, ◌+◌, ◌-◌, ◌*◌, ◌^◌, ◌≤◌, true, false, List, [], ◌∷◌, ◌++◌, map, ◌≡◌, Float, Some, Ok, Err}
+-- document 02's 11 to 15, the elongation sheet of document 002's example 1, two members whose gauges differ by a psi, and members of two
+-- paths: one list of what the definitions of the other crates give, to be held beside the papers.
+use Rattle.std.specs.Prelude.{ℕ, zero, suc, ◌+◌, ◌-◌, ◌*◌, ◌/◌, ◌^◌, ◌≤◌, true, false, List, [], ◌∷◌, ◌++◌, map, ◌≡◌, Float}
+use Rattle.std.specs.Prelude.{Some, Ok, Err}
 use Rattle.std.specs.Float.{binary64}
 use Rattle.std.specs.Float.Ieee.{round}
 use Rattle.ticks.specs.Doubles.{ticks_of, magnitude, one}
@@ -13,17 +14,21 @@ use Rattle.fields.specs.Limits.{most_ages, report_room, scratch_room}
 use Rattle.fields.specs.Outcomes.{accepted, OrRefusal}
 use Rattle.card.specs.Card.{card_outcome}
 use Rattle.list.specs.Lists.{list_outcome}
-use Rattle.fields.specs.declared.segments.Age.{Age}
+use Rattle.fields.specs.declared.read.Counts.{Counts}
 use Rattle.fields.specs.declared.segments.Segment.{Segment}
+use Rattle.fields.specs.declared.segments.Age.{Age}
 use Rattle.fields.specs.Quantities.{Quantities, parabola, quantities_of, quantities_read}
 use Rattle.fields.specs.declared.refusal.Refusal.{Refusal}
 use Rattle.fields.specs.Refusals.{number, place, may_alter_scratch}
-use Rattle.formulas.specs.Steps.{dies_out, drop_at_jack}
-use Rattle.member.specs.Constants.{path_friction}
+use Rattle.formulas.specs.Steps.{friction_loss, dies_out, drop_at_jack}
+use Rattle.member.specs.Constants.{path_friction, friction_of}
 use Rattle.member.specs.declared.Member.{Member}
-use Rattle.member.specs.Member.{friction_of, member_of}
+use Rattle.member.specs.declared.path.Path.{Path}
+use Rattle.member.specs.Member.{member_of}
 use Rattle.stages.specs.declared.before.BeforeAges.{BeforeAges}
 use Rattle.stages.specs.declared.intervals.Row.{Row}
+use Rattle.stages.specs.declared.path.Seated.{Seated}
+use Rattle.stages.specs.Run.{after, before_ages, jacked, friction_along, slip_along, larger, seated_alone, seated_both}
 use Rattle.stages.specs.Run.{begun_of, end_at, transfer_end, losses_between, together, gain_between, Report, result_read}
 use Rattle.elongation.specs.Sheet.{elongation}
 use Rattle.text.specs.Columns.{all_in_columns, line_of}
@@ -41,7 +46,7 @@ lines_of (line ∷ lines) = line_of line ++ lines_of lines
 -- ---- the sample's card
 
 -- "2 1 240000 120000 0 0 102400 / 2 1 28000000 3500000 4000000 3072 / 131072 1048576 0 1024 0 / 24 24 0 0 0 3 / 744 0 / 8784 0 /
--- 438000 0", and what an edge changes of it
+-- 438000 0", where "the sample's line 4 gains a 0" (document 02, W9), and what an edge changes of it
 abbrev pub line1_jacked_to : ℕ → List ℕ
 line1_jacked_to jacking_stress = 2 ∷ 1 ∷ 240000 ∷ jacking_stress ∷ 0 ∷ 0 ∷ 102400 ∷ []
 
@@ -54,8 +59,11 @@ line2 volume_to_surface = 2 ∷ 1 ∷ 28000000 ∷ 3500000 ∷ 4000000 ∷ volum
 abbrev pub line3 : List ℕ
 line3 = 131072 ∷ 1048576 ∷ 0 ∷ 1024 ∷ 0 ∷ []
 
-abbrev pub line4 : ℕ → ℕ → ℕ → ℕ → List ℕ
-line4 wobble curvature segments ages = 24 ∷ 24 ∷ wobble ∷ curvature ∷ segments ∷ ages ∷ []
+abbrev pub line4_with : (wobble curvature segments ages second : ℕ) → List ℕ
+line4_with wobble curvature segments ages second = 24 ∷ 24 ∷ wobble ∷ curvature ∷ segments ∷ ages ∷ second ∷ []
+
+abbrev pub line4 : (wobble curvature segments ages : ℕ) → List ℕ
+line4 wobble curvature segments ages = line4_with wobble curvature segments ages 0
 
 abbrev pub age_lines : List (List ℕ)
 age_lines = (744 ∷ 0 ∷ []) ∷ (8784 ∷ 0 ∷ []) ∷ (438000 ∷ 0 ∷ []) ∷ []
@@ -68,6 +76,10 @@ sample_lines = lines_under line1
 
 abbrev pub sample : List ℕ
 sample = lines_of sample_lines
+
+-- what its counts are
+abbrev pub sample_counts : Counts
+sample_counts = record { segments = 0; ages = 3; second_segments = 0 }
 
 -- the same, jacked a psi higher
 abbrev pub higher_lines : List (List ℕ)
@@ -156,6 +168,27 @@ with_anchor_set length =
     ((2 ∷ 1 ∷ 240000 ∷ 120000 ∷ 0 ∷ 1 ∷ length ∷ []) ∷ (2 ∷ 1 ∷ 29479201 ∷ 3500000 ∷ 4000000 ∷ 3072 ∷ []) ∷ line3 ∷ line4 2 0 1 3
     ∷ (1 ∷ 102400 ∷ 0 ∷ []) ∷ age_lines)
 
+-- two paths under this line 1, of a straight and a bend each, without wobble, 100 feet together but for what the second's length changes
+abbrev pub two_paths_under : (first : List ℕ) (angle length second_angle second_length : ℕ) → List ℕ
+two_paths_under first angle length second_angle second_length =
+    lines_of
+    (first ∷ line2 3072 ∷ line3 ∷ line4_with 0 150000 2 3 2 ∷ (1 ∷ length ∷ 0 ∷ []) ∷ (3 ∷ 0 ∷ angle ∷ []) ∷ (1 ∷ second_length ∷ 0 ∷ [])
+    ∷ (3 ∷ 0 ∷ second_angle ∷ []) ∷ age_lines)
+
+abbrev pub two_paths : (angle second_angle : ℕ) → List ℕ
+two_paths angle second_angle = two_paths_under line1 angle 51200 second_angle 51200
+
+abbrev pub of_lengths : (length second_length : ℕ) → List ℕ
+of_lengths length second_length = two_paths_under line1 0 length 0 second_length
+
+-- a straight of 50 feet, three bends of 4 radians and a straight of a foot, of which the first so many are the first path's and the others
+-- the second's: X is past its limit where the bends are, and both together are far shorter than the tendon
+abbrev pub rough_path : (first : List ℕ) (segments second : ℕ) → List ℕ
+rough_path first segments second =
+    lines_of
+    (first ∷ line2 3072 ∷ line3 ∷ line4_with 0 150000 segments 3 second ∷ (1 ∷ 51200 ∷ 0 ∷ []) ∷ (3 ∷ 0 ∷ 4096 ∷ []) ∷ (3 ∷ 0 ∷ 4096 ∷ [])
+    ∷ (3 ∷ 0 ∷ 4096 ∷ []) ∷ (1 ∷ 1024 ∷ 0 ∷ []) ∷ age_lines)
+
 -- ---- what a card gives
 
 -- with room for the most ages in report and scratch
@@ -167,9 +200,14 @@ abbrev pub number_and_place : OrRefusal Report → List ℕ
 number_and_place (Ok report) = 0 ∷ 0 ∷ []
 number_and_place (Err refusal) = number refusal ∷ place refusal ∷ []
 
+-- friction and slip of the reply, none of a card that is refused
+abbrev pub friction_and_slip : OrRefusal Report → List ℕ
+friction_and_slip (Ok report) = report.before.friction ∷ report.before.slip ∷ []
+friction_and_slip (Err refusal) = []
+
 -- X that a card's duct has, and 0 of a card that is not read
 abbrev pub friction_read : OrRefusal Quantities → ℕ
-friction_read (Ok q) = friction_of q
+friction_read (Ok q) = friction_of q q.path
 friction_read (Err refusal) = 0
 
 abbrev pub friction_of_card : List ℕ → ℕ
@@ -245,11 +283,15 @@ half_apart = 2 ^ 1018
 abbrev pub parabola_of : ℕ → ℕ → Segment
 parabola_of length rise = record { kind = parabola; length = length; rise = rise }
 
+-- what a bend of this angle takes of the sample's jacking stress
+abbrev pub friction_of_bend : ℕ → ℕ
+friction_of_bend angle = friction_loss (120000 * 1024) (150000 * angle * 2 ^ 24 / (1024 * 1000000))
+
 -- ---- the list
 
 pub record Marked : Type 0 where
   -- "this sample": the fields of its text, its ages (the first, the second, the third), what it gives, and what is printed for it
-  pub sample_fields : card_outcome sample ≡ accepted 0 3 (fields_of sample_lines)
+  pub sample_fields : card_outcome sample ≡ accepted sample_counts (fields_of sample_lines)
   pub sample_ages : ages_read (quantities_read (card_outcome sample)) ≡ age 744 0 ∷ age 8784 0 ∷ age 438000 0 ∷ []
   pub sample_result : result_of_card sample ≡ Ok (record { before = sample_before; rows = row1 ∷ row2 ∷ row3 ∷ []; last = 91437232 })
   pub sample_printed : text_of Program.Report sample
@@ -321,6 +363,30 @@ pub record Marked : Type 0 where
   pub sheet_refused_with_4 : text_of Program.Sheet (duct_under line1 184) ≡ lines_of ((4 ∷ 2 ∷ []) ∷ [])
   pub sheet_refused_with_13 : text_of Program.Sheet (duct_under pretensioned1 184) ≡ lines_of ((13 ∷ 1 ∷ []) ∷ [])
   -- document 02, W8: "two accepted cards differ only in jacking stress": the sample, and the sample jacked a psi higher
-  pub gauges : ReadAsTwoGauges (as_card sample) (as_card (lines_of higher_lines)) (quantities_of 0 3 (fields_of sample_lines))
-      (quantities_of 0 3 (fields_of higher_lines))
+  pub gauges : ReadAsTwoGauges (as_card sample) (as_card (lines_of higher_lines)) (quantities_of sample_counts (fields_of sample_lines))
+      (quantities_of sample_counts (fields_of higher_lines))
   pub gauges_pass : number_and_place (result_of_card (lines_of higher_lines)) ≡ 0 ∷ 0 ∷ []
+  -- document 02, W9: "the larger goes on", whichever path's it is, and what is reported is of that one; "the first path's if they are
+  -- equal"
+  pub second_goes_on : friction_and_slip (result_of_card (two_paths 1024 512)) ≡ friction_of_bend 512 ∷ 0 ∷ []
+  pub first_goes_on : friction_and_slip (result_of_card (two_paths 512 1024)) ≡ friction_of_bend 512 ∷ 0 ∷ []
+  pub first_if_equal : (first second : Seated) → first.stress ≡ second.stress → larger first second ≡ first
+  -- "12 look at both paths, ahead of any 7 if there are two"; with one, 7 looks at friction before
+  pub twelve_of_first : (m : Member) (path second : Path) → slip_along m path ≡ Err Refusal.AnchorSet
+      → seated_both m path second ≡ Err Refusal.AnchorSet
+  pub twelve_of_second : (m : Member) (path second : Path) (slip : ℕ) → slip_along m path ≡ Ok slip
+      → slip_along m second ≡ Err Refusal.AnchorSet → seated_both m path second ≡ Err Refusal.AnchorSet
+  pub seven_of_one : (m : Member) (path : Path) (refusal : Refusal)
+      → after before_ages (jacked m) (friction_along m path) ≡ Err refusal → seated_alone m path ≡ Err refusal
+  -- "14 when a second path stands on a pretensioned card, checked right after number 4 place 1 (first path only), place 2"; 4 place 2 looks
+  -- "at both paths"
+  pub path_refused_with_4 : number_and_place (result_of_card (rough_path pretensioned1 4 1)) ≡ 4 ∷ 1 ∷ []
+  pub second_refused_with_14 : number_and_place (result_of_card (rough_path pretensioned1 0 5)) ≡ 14 ∷ 2 ∷ []
+  pub second_refused_with_4 : number_and_place (result_of_card (rough_path line1 1 4)) ≡ 4 ∷ 2 ∷ []
+  -- "15 when, with a second path, the two path lengths differ from field 7 by more than one foot together .., place 7"
+  pub foot_more : number_and_place (result_of_card (of_lengths 51200 52224)) ≡ 0 ∷ 0 ∷ []
+  pub past_a_foot_more : number_and_place (result_of_card (of_lengths 51200 52225)) ≡ 15 ∷ 7 ∷ []
+  pub foot_less : number_and_place (result_of_card (of_lengths 51200 50176)) ≡ 0 ∷ 0 ∷ []
+  pub past_a_foot_less : number_and_place (result_of_card (of_lengths 51200 50175)) ≡ 15 ∷ 7 ∷ []
+  -- "The elongation sheet keeps to the first path, for its check 4 too, and never gives 15": the second is too rough, and both too short
+  pub sheet_of_first : text_of Program.Sheet (rough_path line1 1 4) ≡ lines_of ((1 ∷ 2633 ∷ []) ∷ (2633 ∷ 2106 ∷ []) ∷ [])

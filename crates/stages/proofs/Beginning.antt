@@ -9,18 +9,14 @@ use Rattle.formulas.specs.Conditions.{stress_limit}
 use Rattle.stages.specs.declared.path.Seated.{Seated}
 use Rattle.stages.specs.declared.before.BeforeAges.{BeforeAges}
 use Rattle.stages.specs.Conditions.{Bounded}
-use Rattle.stages.specs.Run.{slip_of, seated, begun_of}
+use Rattle.stages.specs.Run.{seated, begun_of}
+use Rattle.stages.proofs.Seating.{seated_most}
 use Rattle.stages.proofs.Leaving.{same_value, left_fits}
 
 pub seated_fits : (m : Member) (given : Seated) → Bounded m → seated m ≡ Ok given → given.stress < stress_limit
-unfolding seated
 seated_fits m given bounds e =
-    let rubbed = through _ _ e in
-    let slips = through (slip_of m) _ rubbed.next_is in
-    let slipped = through _ _ slips.next_is in
-    let rubbed_fits = left_fits _ _ _ rubbed.from bounds.jacking_fits rubbed.given_is in
-    let slipped_fits = left_fits _ _ _ slipped.from rubbed_fits slipped.given_is in
-    let last : slipped.from ≡ given.stress = ap (λ (seated : Seated). seated.stress) (same_value slipped.next_is) in
+    let most = seated_most m m.paths.first m.paths.second e in
+    let fits = bounds.jacking_fits in
     omega arith
 
 pub begun_fits : (m : Member) (before : BeforeAges) → Bounded m → begun_of m ≡ Ok before → before.stress < stress_limit

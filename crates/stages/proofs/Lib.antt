@@ -3,3 +3,4 @@ pub mod Leaving
 pub mod Clocks
 pub mod Passing
 pub mod Slipping
+pub mod Seating

@@ -7,34 +7,35 @@ use Rattle.std.specs.Prelude.{Ok, Err}
 use Rattle.fields.specs.declared.refusal.Refusal.TheVariants.{AnchorSet}
 use Rattle.formulas.specs.Steps.{dies_out, drop_at_jack, passes_tendon, drop_at_section, slip_loss}
 use Rattle.member.specs.declared.Member.{Member}
-use Rattle.stages.specs.Run.{friction_loss_of, slip_of}
+use Rattle.member.specs.declared.path.Path.{Path}
+use Rattle.stages.specs.Run.{friction_along, slip_along}
 
-module _ (m : Member) where
+module _ (m : Member) (path : Path) where
   abbrev d : ℕ
-  d = friction_loss_of m
+  d = friction_along m path
 
   -- Z
   abbrev z : ℕ
-  z = drop_at_jack d m.es m.slip m.path_length
+  z = drop_at_jack d m.es m.slip path.length
 
   abbrev dies : Bool
-  dies = dies_out d m.path_length
+  dies = dies_out d path.length
 
   abbrev passes : Bool
-  passes = passes_tendon z d m.path_length m.length
+  passes = passes_tendon z d path.length m.length
 
-  pub over_the_tendon : dies ≡ false → slip_of m ≡ Ok (slip_loss m.es m.slip m.length)
+  pub over_the_tendon : dies ≡ false → slip_along m path ≡ Ok (slip_loss m.es m.slip m.length)
   over_the_tendon not = rw not refl
 
-  pub beyond_the_tendon : dies ≡ true → passes ≡ true → slip_of m ≡ Err AnchorSet
+  pub beyond_the_tendon : dies ≡ true → passes ≡ true → slip_along m path ≡ Err AnchorSet
   beyond_the_tendon so far = rw (so, far) refl
 
-  pub at_the_section : dies ≡ true → passes ≡ false → slip_of m ≡ Ok (drop_at_section z d)
+  pub at_the_section : dies ≡ true → passes ≡ false → slip_along m path ≡ Ok (drop_at_section z d)
   at_the_section so near = rw (so, near) refl
 
   -- ---- a slip that is given
 
-  module _ {slip : ℕ} (given : slip_of m ≡ Ok slip) where
+  module _ {slip : ℕ} (given : slip_along m path ≡ Ok slip) where
     pub given_over_the_tendon : dies ≡ false → slip ≡ slip_loss m.es m.slip m.length
     given_over_the_tendon not = let is = over_the_tendon not in cc
 

@@ -1,17 +1,23 @@
 -- It serves the code alone, and every accepted member has it. What the code's arithmetic asks of a member and of the ends of its
 -- intervals, so that no product wraps.
-use Rattle.std.specs.Prelude.{ℕ, ◌≤◌, ◌<◌, ◌≡◌}
+use Rattle.std.specs.Prelude.{ℕ, ◌≤◌, ◌<◌, ◌≡◌, Some}
 use Rattle.ticks.specs.Ticks.{T}
 use Rattle.logarithm.specs.Logarithm.{service_life, last_threshold}
 use Rattle.member.specs.declared.Member.{Member}
+use Rattle.member.specs.declared.path.Path.{Path}
 use Rattle.fields.specs.Limits.{strengths, most_moment, most_friction, most_kappa}
 use Rattle.formulas.specs.Conditions.{stress_limit, most_slip, length_limit, path_limit, deflector_limit, least_strength}
-use Rattle.formulas.specs.Conditions.{es_limit, eci_limit, least_ec, ec_limit, least_inertia, most_moment_stress, eccentricity_limit, creep_limit}
+use Rattle.formulas.specs.Conditions.{es_limit, eci_limit, least_ec, ec_limit, least_inertia, most_moment_stress, eccentricity_limit}
+use Rattle.formulas.specs.Conditions.{creep_limit}
 use Rattle.formulas.specs.Conditions.{shrinkage_limit, most_gain}
 use Rattle.stages.specs.declared.ends.End.{End}
-use Rattle.stages.specs.Run.{jacked, relaxation_logarithm, moment_stress_of}
+use Rattle.stages.specs.Run.{jacked, friction_along, relaxation_logarithm, moment_stress_of}
 
 -- ---- a member
+
+pub record PathBounded (path : Path) : Type 0 where
+  pub friction_most : path.friction ≤ most_friction
+  pub length_fits : path.length < path_limit
 
 pub record Bounded (m : Member) : Type 0 where
   pub transfer : m.hours.transfer ≤ service_life
@@ -30,11 +36,16 @@ pub record Bounded (m : Member) : Type 0 where
   pub inertia : least_inertia ≤ m.inertia
   pub eccentricity_fits : m.eccentricity < eccentricity_limit
   pub own_weight_fits : m.own_weight_moment ≤ most_moment
-  pub friction_most : m.friction ≤ most_friction
-  pub path_fits : m.path_length < path_limit
+  pub first_path : PathBounded m.paths.first
+  pub second_path : (second : Path) → m.paths.second ≡ Some second → PathBounded second
   pub kappa_fits : m.kappa ≤ most_kappa
   pub creep_fits : m.creep < creep_limit
   pub shrinkage_fits : m.shrinkage < shrinkage_limit
+
+-- what slip asks of a path, and of the friction along it
+pub record FrictionTaken (m : Member) (path : Path) (friction : ℕ) : Type 0 where
+  pub bounded : PathBounded path
+  pub friction_is : friction ≡ friction_along m path
 
 -- ---- the ends of the intervals
 

@@ -1,6 +1,6 @@
 -- The promise rests on it. The losses in their order and the stress that each leaves: document 01, "Steps", and row "stress", with slip
--- by document 02, W5. At each age the gain follows, and the stress after it: document 02, W1.
-use Rattle.std.specs.Prelude.{ℕ, ◌+◌, ◌-◌, ◌*◌, suc, cond, leb, List, [], ◌∷◌, Ok, Err}
+-- by document 02, W5, and two paths by W9. At each age the gain follows, and the stress after it: document 02, W1.
+use Rattle.std.specs.Prelude.{ℕ, ◌+◌, ◌-◌, ◌*◌, suc, cond, leb, List, [], ◌∷◌, Option, Some, None, Ok, Err}
 use Rattle.fields.specs.declared.refusal.Refusal.{Refusal}
 use Rattle.fields.specs.Outcomes.{OrRefusal, onward, Outcome}
 use Rattle.fields.specs.Limits.{least_stress, most_of_strength, hundredths}
@@ -9,6 +9,7 @@ use Rattle.logarithm.specs.Logarithm.{logarithm, service_life}
 use Rattle.coefficient.specs.declared.codes.Kind.{Kind}
 use Rattle.coefficient.specs.Coefficients.{since_tensioning, since_transfer, since_curing, creep_share, shrinkage_share}
 use Rattle.member.specs.declared.Member.{Member}
+use Rattle.member.specs.declared.path.Path.{Path}
 use Rattle.formulas.specs.Steps.{friction_loss, dies_out, drop_at_jack, passes_tendon, drop_at_section, slip_loss, deflector_ticks}
 use Rattle.formulas.specs.Steps.{relaxation_loss, moment_stress, concrete_stress, shortening_loss, creep_loss, shrinkage_loss, moment_gain}
 use Rattle.stages.specs.declared.path.Seated.{Seated}
@@ -34,27 +35,56 @@ before_ages = 0
 abbrev pub jacked : Member → ℕ
 jacked m = m.jacking_stress * ticks_per_unit
 
--- "1. Friction", by document 02, W3
-abbrev pub friction_loss_of : Member → ℕ
-friction_loss_of m = friction_loss (jacked m) m.friction
+-- "1. Friction", by document 02, W3, along a path
+abbrev pub friction_along : Member → Path → ℕ
+friction_along m path = friction_loss (jacked m) path.friction
 
 -- "2. Slip", by document 02, W5: the drop at the section where slip dies out along the path, or "12 when the affected length .. passes
 -- the tendon length"; else by document 01
-abbrev pub slip_of : Member → OrRefusal ℕ
-slip_of m =
-    let d = friction_loss_of m in
-    let z = drop_at_jack d m.es m.slip m.path_length in
-    cond (dies_out d m.path_length)
-    (cond (passes_tendon z d m.path_length m.length) (Err Refusal.AnchorSet) (Ok (drop_at_section z d)))
+abbrev pub slip_along : Member → Path → OrRefusal ℕ
+slip_along m path =
+    let d = friction_along m path in
+    let z = drop_at_jack d m.es m.slip path.length in
+    cond (dies_out d path.length)
+    (cond (passes_tendon z d path.length m.length) (Err Refusal.AnchorSet) (Ok (drop_at_section z d)))
     (Ok (slip_loss m.es m.slip m.length))
 
--- friction, slip and the stress after both; 12 is "checked at the slip ahead of number 7"
-unfoldable pub seated : Member → OrRefusal Seated
-seated m =
-    onward (after before_ages (jacked m) (friction_loss_of m)) (λ rubbed.
-    onward (slip_of m) (λ slip.
+-- along one path, friction, slip and the stress after both; 12 is "checked at the slip ahead of number 7"
+abbrev pub seated_alone : Member → Path → OrRefusal Seated
+seated_alone m path =
+    onward (after before_ages (jacked m) (friction_along m path)) (λ rubbed.
+    onward (slip_along m path) (λ slip.
     onward (after before_ages rubbed slip) (λ stress.
-    Ok (record { friction = friction_loss_of m; slip = slip; stress = stress }))))
+    Ok (record { friction = friction_along m path; slip = slip; stress = stress }))))
+
+-- document 02, W9: "The stress after friction and slip is worked out for both paths by the same rules". Where they take more than there is
+-- it is 0 here, which 7 does not let pass.
+abbrev pub seated_along : Member → Path → OrRefusal Seated
+seated_along m path =
+    let friction = friction_along m path in
+    onward (slip_along m path) (λ slip. Ok (record { friction = friction; slip = slip; stress = jacked m - friction - slip }))
+
+-- "and the larger goes on, the first path's if they are equal"
+abbrev pub larger : Seated → Seated → Seated
+larger first second = cond (leb second.stress first.stress) first second
+
+-- "The friction and slip reported are those of the path that goes on, and number 7 looks at that one alone", after each of the two
+abbrev pub looked_at : Member → Seated → OrRefusal Seated
+looked_at m given =
+    onward (after before_ages (jacked m) given.friction) (λ rubbed.
+    onward (after before_ages rubbed given.slip) (λ left. Ok given))
+
+-- "12 look at both paths, ahead of any 7 if there are two"
+abbrev pub seated_both : Member → Path → Path → OrRefusal Seated
+seated_both m first second =
+    onward (seated_along m first) (λ one. onward (seated_along m second) (λ other. looked_at m (larger one other)))
+
+unfoldable pub seated_by : Member → Path → Option Path → OrRefusal Seated
+seated_by m path None = seated_alone m path
+seated_by m first (Some second) = seated_both m first second
+
+abbrev pub seated : Member → OrRefusal Seated
+seated m = seated_by m m.paths.first m.paths.second
 
 -- ---- deflector, early relaxation and shortening
 
@@ -84,22 +114,25 @@ abbrev pub shortening_of : Member → ℕ → ℕ
 shortening_of m stress =
     shortening_loss m.es m.eci m.kappa (concrete_stress stress m.kappa (moment_stress_of m m.own_weight_moment))
 
--- the five losses, each from the stress that the one before it leaves
-unfoldable pub begun_of : Member → OrRefusal BeforeAges
-unfolding seated
-begun_of m =
-    onward (seated m) (λ anchored.
-    onward (after before_ages anchored.stress (deflector_of m)) (λ deflected.
+-- the losses after slip, each from the stress that the one before it leaves
+abbrev pub begun_from : Member → Seated → OrRefusal BeforeAges
+begun_from m given =
+    onward (after before_ages given.stress (deflector_of m)) (λ deflected.
     onward (after before_ages deflected (early_relaxation_of m deflected)) (λ relaxed.
     onward (after before_ages relaxed (shortening_of m relaxed)) (λ shortened.
     Ok (record {
-      friction = anchored.friction;
-      slip = anchored.slip;
+      friction = given.friction;
+      slip = given.slip;
       deflector = deflector_of m;
       early_relaxation = early_relaxation_of m deflected;
       shortening = shortening_of m relaxed;
       stress = shortened;
-    })))))
+    }))))
+
+-- the five losses before the ages
+unfoldable pub begun_of : Member → OrRefusal BeforeAges
+unfolding seated_by
+begun_of m = onward (seated m) (begun_from m)
 
 -- ---- "5. Per age"
 
@@ -184,13 +217,16 @@ pub record Report : Type 0 where
   pub rows : List Row
   pub last : ℕ
 
+-- the ages of a member, from what is left before them
+abbrev pub report_from : Member → List Age → BeforeAges → OrRefusal Report
+report_from m ages before =
+    onward (aged_from m 0 before.stress (transfer_end m) ages) (λ aged.
+    Ok (record { before = before; rows = aged.rows; last = aged.last }))
+
 -- an accepted member's run
 unfoldable pub member_result : Member → List Age → OrRefusal Report
 unfolding begun_of aged_from
-member_result m ages =
-    onward (begun_of m) (λ before.
-    onward (aged_from m 0 before.stress (transfer_end m) ages) (λ aged.
-    Ok (record { before = before; rows = aged.rows; last = aged.last })))
+member_result m ages = onward (begun_of m) (report_from m ages)
 
 -- what quantities give, with room for so many numbers in report and scratch
 abbrev pub result_of : Quantities → ℕ → ℕ → OrRefusal Report

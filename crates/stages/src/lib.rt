@@ -1,4 +1,4 @@
-// What a member loses at each stage: along the path and at the anchor, before the ages, and in an interval between two ends, where an
+// What a member loses at each stage: along its paths and at the anchors, before the ages, and in an interval between two ends, where an
 // added moment lifts the stress.
 
 #![tactic(auto)]

@@ -1,6 +1,6 @@
 -- What a host gets of a result: the number and the values of the run's answer are the result's, a refusal writes no row, and an accepted
 -- run's double has the bits that its value has. Assumes nothing.
-use mathlib.Core.Path.{◌≡◌, refl, ◌∙◌}
+use mathlib.Core.Path.{◌≡◌, refl}
 use mathlib.Core.Bool.{not}
 use mathlib.Core.List.{List}
 use Prim.Native.Nat.{ℕ, ◌*◌, ◌≤◌}
@@ -10,13 +10,13 @@ use lib.Ieee.{is_nan, binary64, to_bits, of_bits}
 use lib.ListN.{take}
 use Rattle.std.specs.Prelude.{Ok, Err}
 use Rattle.fields.specs.declared.refusal.Refusal.{Refusal}
-use Rattle.fields.specs.Refusals.{acceptance_number, number}
+use Rattle.fields.specs.Refusals.{acceptance_number}
 use Rattle.fields.specs.Outcomes.{OrRefusal}
 use Rattle.fields.specs.Limits.{report_room}
 use Rattle.fields.proofs.Refusals.{refusal_number}
 use Rattle.entries.specs.declared.Reply.{Reply}
 use Rattle.stages.specs.Run.{Report}
-use Rattle.entries.specs.Answers.{acceptance_values, refusal_values, numbers_written, Answered}
+use Rattle.entries.specs.Answers.{acceptance_values, numbers_written, Answered}
 use Rattle.entries.proofs.Doubles.{same_bits, finite}
 use Rattle.numbers.specs.Numbers.{bytes_per_number, room, bytes_of_numbers, written}
 use Rattle.stratelyn.specs.Conditions.{Front, Rowed, Reported, Replied}

@@ -2,7 +2,7 @@
 -- as good as that. Assumes nothing.
 use mathlib.Core.Path.{◌≡◌, refl, sym, ap, ◌∙◌}
 use mathlib.Core.Bool.{Bool, true, false}
-use mathlib.Core.List.{List, [], ◌∷◌, ◌++◌, append_assoc}
+use mathlib.Core.List.{List, ◌++◌, append_assoc}
 use Prim.Native.Nat.{ℕ, ◌*◌, min, ◌≤◌}
 use native.Mathlib.Nat.{le-min, min-le_left, min-le_right}
 use native.Mathlib.Omega.{arith}
@@ -13,7 +13,7 @@ use lib.Seq.{take_at}
 use Rattle.std.specs.Prelude.{Ok, Err}
 use Rattle.fields.specs.declared.read.Counts.{Counts}
 use Rattle.fields.specs.Outcomes.{OrRefusal, over}
-use Rattle.fields.specs.Quantities.{Quantities, quantities_with}
+use Rattle.fields.specs.Quantities.{Quantities, quantities_of}
 use Rattle.fields.specs.Limits.{per_row, report_room, scratch_room}
 use Rattle.fields.specs.Readable.{Readable}
 use Rattle.fields.proofs.Counting.{age_count}
@@ -41,7 +41,7 @@ enough count room = by (leb count room) refl
         let least = min-le_left room count in
         lt-leb count (min room count) (omega arith)
 
-module _ (counts : Counts) (numbers : List ℕ) (readable : Readable counts numbers) {q : Quantities} (is : quantities_with counts numbers ≡ q)
+module _ (counts : Counts) (numbers : List ℕ) (readable : Readable counts numbers) {q : Quantities} (is : quantities_of counts numbers ≡ q)
     (report scratch : ℕ) where
   count : length q.ages ≡ counts.ages
   count = age_count counts numbers is

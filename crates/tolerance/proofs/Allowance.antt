@@ -32,15 +32,15 @@ pub record Allowance (δ step : ℕ) (choice : Choice) : Type 0 where
   pub covers : age_error_by δ ≤ step
   pub step_most : step ≤ wide_step
 
-pub narrow_allowance : {factor : ℕ → Fraction} → Allowance 0 narrow_step (table_choice factor)
+pub narrow_allowance : {factor second_factor : ℕ → Fraction} → Allowance 0 narrow_step (table_choice factor second_factor)
 narrow_allowance = record { logs = table_logs; covers = lit≤ tt; step_most = lit≤ tt }
 
 pub wide_allowance : {q : Quantities} {choice : Choice} → Admissible q choice → Allowance most_above wide_step choice
 wide_allowance admissible = record { logs = admissible_logs admissible; covers = lit≤ tt; step_most = lit≤ tt }
 
--- the steps of the longest path and the most ages, with slip, early relaxation and shortening
+-- the steps of the two longest paths and the most ages, with slip, early relaxation and shortening
 abbrev pub most_steps : ℕ
-most_steps = most_segments + most_ages + 3
+most_steps = most_segments + most_segments + most_ages + 3
 
 -- how far apart so many steps can be
 pub steps_top : {δ step : ℕ} {choice : Choice} → Allowance δ step choice → (k : ℕ) → k ≤ most_steps

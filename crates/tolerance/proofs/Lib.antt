@@ -16,4 +16,5 @@ pub mod Ends
 pub mod Distance
 pub mod Near
 pub mod Closeness
+pub mod AfterSlip
 pub mod Demand3

@@ -34,7 +34,7 @@ pub record Logs (δ : ℕ) (choice : Choice) : Type 0 where
   pub most : (hour : ℕ) → 1 ≤ hour → hour ≤ service_life → choice.log hour ≼ whole (logarithm hour + δ)
   pub rises : (hour later : ℕ) → 1 ≤ hour → hour ≤ later → later ≤ service_life → choice.log hour ≼ choice.log later
 
-pub table_logs : {factor : ℕ → Fraction} → Logs 0 (table_choice factor)
+pub table_logs : {factor second_factor : ℕ → Fraction} → Logs 0 (table_choice factor second_factor)
 table_logs = record {
   small = lit≤ tt;
   least = λ hour some life. whole_order (omega arith);

@@ -25,7 +25,7 @@ use Rattle.tolerance.specs.Formulas.{kappa}
 use Rattle.tolerance.specs.Method.{Choice, End, transfer_end, early_relaxation, after_tendon_slip, after_deflector, after_early}
 use Rattle.tolerance.specs.Method.{after_shortening, after_age, age_steps}
 use Rattle.tolerance.specs.Demand.{stresses_of}
-use Rattle.tolerance.proofs.Rounded.{floor_rounded, rounded_within, taken_off}
+use Rattle.tolerance.proofs.Rounded.{floor_rounded, rounded_within, taken_from, taken_off}
 use Rattle.tolerance.proofs.Logarithms.{Logs}
 use Rattle.tolerance.proofs.Shares.{part_near}
 use Rattle.tolerance.proofs.Relaxation.{relaxation_error_by, relaxation_near}
@@ -49,10 +49,11 @@ sum_near a b d e near_x near_y =
     within_weaken (≼-of-≈ (≈-sym (whole-⊕ d e))) (within_resp_≈ (≈-sym (whole-⊕ a b)) ≈-refl (within_sum near_x near_y))
 
 module _ {q : Quantities} {report scratch : ℕ} (facts : Facts q report scratch) (choice : Choice) (n : ℕ) where
-  pub after_slip_near : ticks_slip_loss q.Es q.slip q.tendon_length ≤ n
-      → Within (whole slip_error) (whole (n - ticks_slip_loss q.Es q.slip q.tendon_length)) (after_tendon_slip choice q (whole n))
-  after_slip_near fits =
-      taken_off fits
+  -- slip may take more than there is, of the path that does not go on
+  pub after_slip_near : Within (whole slip_error) (whole n ⊖ whole (ticks_slip_loss q.Es q.slip q.tendon_length))
+      (after_tendon_slip choice q (whole n))
+  after_slip_near =
+      taken_from (whole n)
       (rounded_within (whole_not_negative slip_error)
       (floor_rounded (q.Es * q.slip * ticks_per_unit) (12 * q.tendon_length)
       (mul-pos (lit< tt) (le_trans (lit≤ tt) facts.head.length_least))))

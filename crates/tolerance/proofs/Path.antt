@@ -1,4 +1,4 @@
--- Friction along the tendon's path: the stress in ticks beside the stress without rounding, both from the jacking stress. Each segment
+-- Friction along a path: the stress in ticks beside the stress without rounding, both from the jacking stress. Each segment
 -- adds two parts to X, each rounded down, so that X is short by at most 2 for each segment; the factor is off by that many units, by 2.5 of
 -- its own, and the one of the method in fractions by 1. The jacking stress is less than 15 T, so that a unit is less than 15 ticks of
 -- stress; and the stress left is rounded down once. Assumes nothing.
@@ -27,8 +27,7 @@ use Rattle.fields.specs.declared.segments.Segment.{Segment}
 use Rattle.fields.specs.Quantities.{Quantities, parabola, bend}
 use Rattle.fields.specs.Limits.{most_segments, most_friction}
 use Rattle.member.specs.Constants.{million, path_friction as ticks_friction, wobble_part as ticks_wobble}
-use Rattle.member.specs.Constants.{curvature_part as ticks_curvature, jacked, stress_along as ticks_along}
-use Rattle.member.specs.Member.{friction_of}
+use Rattle.member.specs.Constants.{curvature_part as ticks_curvature, jacked, friction_of, stress_along as ticks_along}
 use Rattle.member.specs.Facts.{SegmentFits, SegmentsFit, no_segment, segment_fits}
 use Rattle.formulas.specs.Steps.{stress_left}
 use Rattle.tolerance.specs.Formulas.{wobble_part, curvature_part, path_friction}
@@ -150,35 +149,36 @@ module _ (q : Quantities) (segments : List Segment) (fits : SegmentsFit segments
           identity (whole (jacked q) ∷ whole T ∷ φ ∷ 1 ÷ T ∷ []) (λ F N P Q. F ⊠ (N ⊠ P) ⊠ Q ≐ F ⊠ (N ⊠ Q ⊠ P)) tt
           ⨾ ⊗-cong ≈-refl (⊗-cong (quotient_times 1 T (lit< tt)) ≈-refl ⨾ one-⊗ φ)
 
--- ---- the stress along a member's path
+-- ---- the stress along one of a member's paths
 
-module _ (q : Quantities) (fits : SegmentsFit q.path) (few : length q.path ≤ most_segments) (most : friction_of q ≤ most_friction) where
-  part_fits : (j : ℕ) → SegmentsFit (take j q.path)
+module _ (q : Quantities) {path : List Segment} (fits : SegmentsFit path) (few : length path ≤ most_segments)
+    (most : friction_of q path ≤ most_friction) where
+  part_fits : (j : ℕ) → SegmentsFit (take j path)
   part_fits j = segments_fit_take j fits
 
-  part_count : (j : ℕ) → j ≤ length q.path → length (take j q.path) ≡ j
+  part_count : (j : ℕ) → j ≤ length path → length (take j path) ≡ j
   part_count j h = rw length-take (min-eq_left h)
 
-  part_few : (j : ℕ) → j ≤ length q.path → length (take j q.path) ≤ most_segments
+  part_few : (j : ℕ) → j ≤ length path → length (take j path) ≤ most_segments
   part_few j h = rw (part_count j h) (le_trans h few)
 
-  part_most : (j : ℕ) → ticks_friction q.wobble q.curvature (take j q.path) ≤ most_friction
-  part_most j = le_trans (friction_of_part q.wobble q.curvature q.path j) most
+  part_most : (j : ℕ) → ticks_friction q.wobble q.curvature (take j path) ≤ most_friction
+  part_most j = le_trans (friction_of_part q.wobble q.curvature path j) most
 
   -- X/T of the first j segments, not rounded
-  pub exponent_between : (j : ℕ) → j ≤ length q.path → (whole 0 ≼ exponent_along q j) × (exponent_along q j ≼ whole 2)
+  pub exponent_between : (j : ℕ) → j ≤ length path → (whole 0 ≼ exponent_along q path j) × (exponent_along q path j ≼ whole 2)
   exponent_between j h =
-      let part = take j q.path in (
+      let part = take j path in (
         exponent_not_negative q part (part_fits j) (part_few j h) (part_most j),
         exponent_most q part (part_fits j) (part_few j h) (part_most j),
       )
 
-  pub some_factors : FactorsAlong q (λ j. sum_to powers (exponent_along q j))
-  some_factors j h = let (least, most) = exponent_between j h in series.some_allowed (exponent_along q j) least most
+  pub some_factors : FactorsAlong q path (λ j. sum_to powers (exponent_along q path j))
+  some_factors j h = let (least, most) = exponent_between j h in series.some_allowed (exponent_along q path j) least most
 
   -- after the first j segments
-  pub along_close : jacked q ≤ highest_stress → {factor : ℕ → Fraction} → FactorsAlong q factor → (j : ℕ) → j ≤ length q.path
-      → Within (whole (path_error j)) (whole (ticks_along q j)) (stress_along factor q j)
+  pub along_close : jacked q ≤ highest_stress → {factor : ℕ → Fraction} → FactorsAlong q path factor → (j : ℕ) → j ≤ length path
+      → Within (whole (path_error j)) (whole (ticks_along q path j)) (stress_along factor q j)
   along_close small factors j h =
       rw (part_count j h) at
-      (path_close q (take j q.path) (part_fits j) (part_few j h) (part_most j) small (factors j h))
+      (path_close q (take j path) (part_fits j) (part_few j h) (part_most j) small (factors j h))

@@ -134,9 +134,12 @@ pub rounded_difference : {e x y : Fraction} {m n : ℕ} → whole 1 ≼ e → Ro
 rounded_difference {m = m} {n} one r s =
     within_resp_≈ (≈-sym (whole_monus m n)) ≈-refl (within_larger_constant (whole 0) (difference_near one r s))
 
--- what a loss l leaves of n, and the loss without rounding
+-- what a loss leaves of n, and the loss without rounding
+pub taken_from : {e loss exact : Fraction} (n : Fraction) → Within e loss exact → Within e (n ⊖ loss) (n ⊖ exact)
+taken_from {e} {loss} {exact} n near = record {
+  above = follows (e ∷ exact ∷ n ∷ loss ∷ []) (λ E A N L. A ⊑ L ⊞ E ∷ [] ⊢ N ⊟ L ⊑ N ⊟ A ⊞ E) tt near.below;
+  below = follows (e ∷ exact ∷ n ∷ loss ∷ []) (λ E A N L. L ⊑ A ⊞ E ∷ [] ⊢ N ⊟ A ⊑ N ⊟ L ⊞ E) tt near.above;
+}
+
 pub taken_off : {e loss : Fraction} {n l : ℕ} → l ≤ n → Within e (whole l) loss → Within e (whole (n - l)) (whole n ⊖ loss)
-taken_off {e} {loss} {n} {l} fits near = within_resp_≈ (≈-sym (whole_difference fits)) ≈-refl (record {
-  above = follows (e ∷ loss ∷ whole n ∷ whole l ∷ []) (λ E A N L. A ⊑ L ⊞ E ∷ [] ⊢ N ⊟ L ⊑ N ⊟ A ⊞ E) tt near.below;
-  below = follows (e ∷ loss ∷ whole n ∷ whole l ∷ []) (λ E A N L. L ⊑ A ⊞ E ∷ [] ⊢ N ⊟ A ⊑ N ⊟ L ⊞ E) tt near.above;
-})
+taken_off {n = n} fits near = within_resp_≈ (≈-sym (whole_difference fits)) ≈-refl (taken_from (whole n) near)

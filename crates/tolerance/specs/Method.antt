@@ -1,5 +1,5 @@
--- The promise rests on it. The method in fractions: document 01, "Steps", "these lines without rounding", with the gain and the friction
--- of document 02, W1 and W3, beside `Run` of `stages`. Each step after the path is a map of stresses.
+-- The promise rests on it. The method in fractions: document 01, "Steps", "these lines without rounding", with the gain, the friction and
+-- the second path of document 02, W1, W3 and W9, beside `Run` of `stages`. Each step after the paths is a map of stresses.
 use Rattle.std.specs.Prelude.{ℕ, suc, ◌≤◌, ◌+◌, ◌*◌, List, [], ◌∷◌, length, take}
 use Rattle.fraction.specs.Fraction.{Fraction, whole, ◌≼◌, ◌⊕◌, ◌⊖◌, ◌⊗◌, ◌÷◌}
 use Rattle.exponential.specs.Series.{BySeries}
@@ -8,6 +8,7 @@ use Rattle.ticks.specs.Ticks.{ticks_per_unit, T}
 use Rattle.coefficient.specs.declared.codes.Kind.{Kind}
 use Rattle.coefficient.specs.Coefficients.{since_transfer, since_curing, since_tensioning}
 use Rattle.tables.specs.Tables.{creep_rows, shrinkage_rows}
+use Rattle.fields.specs.declared.segments.Segment.{Segment}
 use Rattle.fields.specs.declared.segments.Age.{Age}
 use Rattle.fields.specs.Quantities.{Quantities}
 use Rattle.member.specs.Member.{kind_of, steel_of, hours_of}
@@ -17,19 +18,20 @@ use Rattle.tolerance.specs.Formulas.{relaxation_loss, moment_stress, concrete_st
 use Rattle.tolerance.specs.Formulas.{moment_gain}
 
 -- what the method may choose, once for the whole run: the logarithm of an hour, and the factor that is left of the jacking stress after
--- so many segments
+-- so many segments of the first path, and of the second
 pub record Choice : Type 0 where
   pub log : ℕ → Fraction
   pub factor : ℕ → Fraction
+  pub second_factor : ℕ → Fraction
 
--- X/T of the first j segments, not rounded
-abbrev pub exponent_along : Quantities → ℕ → Fraction
-exponent_along q j = path_friction q.wobble q.curvature (take j q.path) ⊗ (1 ÷ T)
+-- X/T of the first j segments of a path, not rounded
+abbrev pub exponent_along : Quantities → List Segment → ℕ → Fraction
+exponent_along q path j = path_friction q.wobble q.curvature (take j path) ⊗ (1 ÷ T)
 
 -- document 02, W3: "the fraction method may take any factor between a pair of neighbouring sums that are no further apart than 1/T",
 -- after each count of segments. After none X is 0 and every sum is 1, and so is the factor.
-abbrev pub FactorsAlong : Quantities → (ℕ → Fraction) → Type 0
-FactorsAlong q factor = (j : ℕ) → j ≤ length q.path → BySeries (exponent_along q j) (factor j)
+abbrev pub FactorsAlong : Quantities → List Segment → (ℕ → Fraction) → Type 0
+FactorsAlong q path factor = (j : ℕ) → j ≤ length path → BySeries (exponent_along q path j) (factor j)
 
 -- 1. document 02, W3: "f times e to the power −X/T", where "the stress after j segments takes X of the first j"
 abbrev pub stress_along : (ℕ → Fraction) → Quantities → ℕ → Fraction
@@ -40,11 +42,13 @@ pub record Admissible (q : Quantities) (choice : Choice) : Type 0 where
   pub least : (hour : ℕ) → 1 ≤ hour → hour ≤ service_life → whole (logarithm hour) ≼ choice.log hour
   pub most : (hour : ℕ) → 1 ≤ hour → hour ≤ service_life → choice.log hour ≼ whole (suc (logarithm hour))
   pub rises : (hour later : ℕ) → 1 ≤ hour → hour ≤ later → later ≤ service_life → choice.log hour ≼ choice.log later
-  pub factors : FactorsAlong q choice.factor
+  pub factors : FactorsAlong q q.path choice.factor
+  pub second_factors : FactorsAlong q q.second_path choice.second_factor
 
 -- the core's own logarithms, beside these factors
-abbrev pub table_choice : (ℕ → Fraction) → Choice
-table_choice factor = record { log = λ hour. whole (logarithm hour); factor = factor }
+abbrev pub table_choice : (factor second_factor : ℕ → Fraction) → Choice
+table_choice factor second_factor =
+    record { log = λ hour. whole (logarithm hour); factor = factor; second_factor = second_factor }
 
 -- what stands at an end of an interval: g, the shares that are done, and the logarithm of relaxation's clock
 pub record End : Type 0 where
@@ -54,7 +58,7 @@ pub record End : Type 0 where
   pub logarithm : Fraction
 
 module _ (choice : Choice) (q : Quantities) where
-  -- 2. slip over the tendon; where it dies out along the path the method is entered anew (`exact_after_slip`). Then the deflector loss, which
+  -- 2. slip over the tendon; where it dies out along a path the method is entered anew (`exact_left_along`). Then the deflector loss, which
   -- is no step
   abbrev pub after_tendon_slip : Fraction → Fraction
   after_tendon_slip stress = stress ⊖ slip_loss q.Es q.slip q.tendon_length

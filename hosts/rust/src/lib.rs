@@ -6,7 +6,7 @@
 //!     2.0, 1.0, 240e3, 120e3, 0.0, 0.0, 100.0, // kind, steel, strength, jacking stress, deflector, slip, length
 //!     2.0, 1.0, 28e6, 3.5e6, 4e6, 3.0, // cure, concrete, Es, Eci, Ec, volume/surface
 //!     128.0, 1024.0, 0.0, 1.0, 0.0, // area, inertia, eccentricity, steel area, own-weight moment
-//!     24.0, 24.0, 0.0, 0.0, 0.0, 3.0, // end of curing, transfer, wobble, curvature, segments, ages
+//!     24.0, 24.0, 0.0, 0.0, 0.0, 3.0, 0.0, // end of curing, transfer, wobble, curvature, segments, ages, the second path's segments
 //!     744.0, 0.0, 8784.0, 0.0, 438_000.0, 0.0, // each age and the moment added then
 //! ];
 //! let run = stratelyn::run_list(&list).expect("the sample is accepted");
@@ -93,7 +93,7 @@ impl fmt::Display for Refusal {
             (2, _) => write!(f, "field {place} is out of range"),
             (3, _) => write!(f, "field {place} breaks a rule of hours"),
             (4, 1) => write!(f, "a pretensioned member has no segments"),
-            (4, _) => write!(f, "the path has more friction than the core takes: its X is over 1.5"),
+            (4, _) => write!(f, "a path has more friction than the core takes: its X is over 1.5"),
             (5, _) => write!(f, "the section is too small for its steel"),
             (6, _) => write!(f, "the section creeps more than the method takes"),
             (7, 0) => write!(f, "less than 1,000 psi are left before the ages"),
@@ -104,7 +104,9 @@ impl fmt::Display for Refusal {
             (10, 1) => write!(f, "the report has no room"),
             (10, 2) => write!(f, "the scratch has no room"),
             (11, _) => write!(f, "the gain of age {place} lifts the stress above 0.80 of the ultimate strength"),
-            (12, _) => write!(f, "the wedge slip reaches further along the duct than the tendon is long"),
+            (12, _) => write!(f, "the wedge slip reaches further along a duct than the tendon is long"),
+            (14, _) => write!(f, "a pretensioned member has no second path"),
+            (15, _) => write!(f, "the two paths together are over a foot longer or shorter than the tendon"),
             (number, _) => write!(f, "refusal {number}, place {place}"),
         }
     }
@@ -122,7 +124,8 @@ pub struct Row {
     pub gain: f64,
 }
 
-/// An accepted run, in psi. The slip is the drop of stress at the section, 0 where friction lets the wedge slip die out before it.
+/// An accepted run, in psi. The slip is the drop of stress at the section, 0 where friction lets the wedge slip die out before it. Of two
+/// paths, friction and slip are those of the one with the larger stress after slip.
 #[derive(Debug, Clone, PartialEq)]
 pub struct Run {
     pub friction: f64,

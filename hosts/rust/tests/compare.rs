@@ -1,7 +1,8 @@
-//! The core against the papers' method as the tests write it, on random inputs: good members, some with long ducts, a quarter of all with
-//! an anchor set that dies out along the duct, members with too many ages, edges of every range, damaged bytes, NaN payloads, odd lengths,
-//! short buffers. Every byte of reply, report and scratch is compared. And cards with a blank slip, against the same cards that write it;
-//! and the elongation sheets of random cards as the program prints them, as C hosts have no entry for these.
+//! The core against the papers' method as the tests write it, on random inputs: good members, half of all with a second path, some with
+//! long ducts, a quarter of all with an anchor set that dies out along a duct, members with too many ages, edges of every range, damaged
+//! bytes, NaN payloads, odd lengths, short buffers. Every byte of reply, report and scratch is compared. And cards with a blank slip,
+//! against the same cards that write it; and the elongation sheets of random cards as the program prints them, as C hosts have no entry for
+//! these.
 
 mod paper;
 mod program;
@@ -9,11 +10,11 @@ mod random;
 
 use paper::Field::*;
 use paper::{elongation_sheet, in_ticks, is_long, printed_line, range, read_card, read_list, refused};
-use paper::{Answer, Field, Member, Paper, Reading, Refusal, Run, Sheet, Stretch};
-use paper::{BEND, BLANK_SLIP, CODES, COLUMNS, FIRST_CODE, LAST_CODE, LEAST_TRANSFER, LIFE, MOST_AGES, MOST_SEGMENTS, MOST_TRANSFER};
-use paper::{POST_TENSIONED, PRETENSIONED, RANGES, ROW_NUMBERS, SCRATCH_NUMBERS_OF_AGE, TICKS};
+use paper::{Answer, Field, Member, OfSegment, Paper, Reading, Refusal, Run, Sheet, Slipped, SlippedPath, Stretch};
+use paper::{BEND, BLANK_SLIP, CODES, COLUMNS, FIRST_CODE, LAST_CODE, LEAST_TRANSFER, LIFE, MOST_AGES, MOST_APART, MOST_SEGMENTS};
+use paper::{MOST_TRANSFER, MOST_X, POST_TENSIONED, PRETENSIONED, RANGES, ROW_NUMBERS, SCRATCH_NUMBERS_OF_AGE, STRAIGHT, TICKS};
 use program::{on_threads, printed, program};
-use random::{hold_kinds, lines_of, losses, member, with_columns, Random, LEAST_COUNT};
+use random::{hold_kinds, largest, lines_of, losses, member, paths_of, segments_of, with_columns, Random, LEAST_COUNT};
 use stratelyn::REPLY_BYTES;
 
 const CASES: usize = 200_000;
@@ -29,6 +30,9 @@ const SHEET_ROOM: usize = MOST_SEGMENTS as usize;
 /// At least one case in so many sets its anchor along a duct, by document 02's W5.
 const CASES_TO_A_SET: usize = 4;
 
+/// At least one case in so many has a second path, by document 02's W9.
+const CASES_TO_A_SECOND_PATH: usize = 2;
+
 /// The slip of older wedges, which a blank field read before document 02's W2.
 const OLDER_SLIP: u64 = 256;
 
@@ -38,17 +42,44 @@ fn edges() -> Vec<(Field, u64, u64)> {
     [&RANGES[..], &codes, &[(Transfer, LEAST_TRANSFER, MOST_TRANSFER)]].concat()
 }
 
-/// Makes the tendon as long as the slip reaches, or a tick shorter or longer, if document 02's W5 rules at the member's slip.
+/// Makes the tendon as long as the slip reaches along a path, or a tick shorter or longer, if document 02's W5 rules there. If there are
+/// two paths, a straight on the other becomes so long that both meet the tendon; without such a straight nothing changes.
 fn end_where_the_set_does(r: &mut Random, paper: &Paper, f: &mut [u64]) {
-    if let Some(set) = losses(paper, &Member(f.to_vec())).anchor_set {
-        f[Length.at()] = (set.affected_length() + r.below(3)).saturating_sub(1);
+    let Some(slipped) = losses(paper, &Member(f.to_vec())).slipped else { return };
+    let along_second = slipped.second.is_some() && r.one_in(2);
+    let path = slipped.second.filter(|_| along_second).unwrap_or(slipped.first);
+    let Some(set) = path.anchor_set else { return };
+    let length = (set.affected_length() + r.below(3)).saturating_sub(1);
+    if let Some(second) = slipped.second {
+        let other = &paths_of(f)[usize::from(!along_second)];
+        let Some(straight) = segments_of(f, other).find(|fields| fields[OfSegment::Kind as usize] == STRAIGHT) else { return };
+        let straight = &mut straight[OfSegment::Length as usize];
+        let beside = (slipped.first.length + second.length) as u64 - *straight;
+        if length <= beside {
+            return;
+        }
+        *straight = length - beside;
     }
+    f[Length.at()] = length;
 }
 
-/// At times makes the tendon end where its anchor set does; then puts some fields at or just past an end, or anywhere.
+/// Gives the path with the most friction as much as the duct's check lets pass, or just more.
+fn curve_to_the_most(r: &mut Random, f: &mut [u64]) {
+    let passes = |curvature: u64| {
+        let mut member = Member(f.to_vec());
+        member.0[Curvature.at()] = curvature;
+        paths_of(f).iter().all(|path| member.x(path) <= MOST_X)
+    };
+    f[Curvature.at()] = largest(range(Curvature), passes) + r.below(2);
+}
+
+/// At times makes the tendon end where an anchor set does, or gives a path the most friction; then puts some fields at or just past an end,
+/// or anywhere.
 fn disturb(r: &mut Random, paper: &Paper, edges: &[(Field, u64, u64)], f: &mut [u64]) {
-    if r.one_in(8) {
-        end_where_the_set_does(r, paper, f);
+    match r.below(16) {
+        0..=1 => end_where_the_set_does(r, paper, f),
+        2 => curve_to_the_most(r, f),
+        _ => {}
     }
     for _ in 0..r.pick(&[0, 0, 1, 1, 1, 2, 3]) {
         if r.one_in(3) {
@@ -91,7 +122,7 @@ fn card_input(r: &mut Random, f: &[u64]) -> (Vec<u8>, Reading) {
 }
 
 fn list_bits(r: &mut Random, f: &[u64]) -> Vec<u64> {
-    let segments = f[Segments.at()] as usize;
+    let segments = (f[Segments.at()] + f[SecondSegments.at()]) as usize;
     let mut list: Vec<u64> = f
         .iter()
         .enumerate()
@@ -190,9 +221,12 @@ fn compare(what: &str, returned: u64, was: &Buffers, now: &Buffers, due: Result<
     }
 }
 
-/// A case: an input's bytes, the buffers lent to its run, and what the papers give.
+/// A case: whether it was made with a second path, its input's bytes, the member that the papers read of them, the buffers lent to its run,
+/// and what the papers give.
 struct Case {
+    both_ends: bool,
     bytes: Vec<u8>,
+    member: Option<Member>,
     was: Buffers,
     answer: Answer,
 }
@@ -201,23 +235,24 @@ impl Case {
     /// `input` gives the bytes of a member's fields, and what the papers read of them.
     fn new(r: &mut Random, paper: &Paper, edges: &[(Field, u64, u64)], input: impl Fn(&mut Random, &[u64]) -> (Vec<u8>, Reading)) -> Self {
         let mut f = member(r);
+        let both_ends = f[SecondSegments.at()] > 0;
         disturb(r, paper, edges, &mut f);
         let (bytes, reading) = input(r, &f);
         let was = Buffers::new(r, f[Ages.at()]);
         let room = |buffer: &[u8]| buffer.len() / BYTES_OF_NUMBER;
-        let answer = match reading {
+        let answer = match &reading {
             // "A reply slice under 64 bytes gives 10 before all other checks"; the place is written nowhere.
             _ if was.reply.len() < REPLY_BYTES => Answer::from((refused::BUFFER, 0)),
-            Ok(member) => paper.run(&member, room(&was.report), room(&was.scratch)),
-            Err(refusal) => Answer::from(refusal),
+            Ok(member) => paper.run(member, room(&was.report), room(&was.scratch)),
+            Err(refusal) => Answer::from(*refusal),
         };
-        Case { bytes, was, answer }
+        Case { both_ends, bytes, member: reading.ok(), was, answer }
     }
 
     /// Whether it comes to the slip with a path and with friction, where document 02's W5 rules, and the wedges do draw in: the drop at the
     /// jack is above 0. So does what is accepted, or refused with 12 or 7 at the slip, or later; what is refused before the slip does not.
     fn sets_along_duct(&self) -> bool {
-        self.answer.anchor_set.is_some_and(|set| set.drop_at_jack > 0)
+        self.answer.slipped.is_some_and(|slipped| slipped.paths().any(|path| path.sets_along_duct()))
     }
 }
 
@@ -253,22 +288,31 @@ struct Tally {
     sets_that_die_out: usize,
     sets_at_section: usize,
     sets_that_leave_too_little: usize,
+    second_paths: SecondPathTally,
 }
 
 impl Tally {
     fn count(&mut self, case: &Case) {
-        let (due, sets) = (&case.answer.due, case.sets_along_duct());
-        let accepted = |kind: &dyn Fn(&Run) -> bool| usize::from(due.as_ref().is_ok_and(kind));
+        let due = &case.answer.due;
         self.answers.count(due);
-        self.most_ages += accepted(&|run| run.rows.len() == MOST_AGES as usize);
         self.ages_out_of_range += usize::from(*due == Err((refused::RANGE, Ages.number() as u64)));
-        self.gains += accepted(&Run::gains);
-        self.long_ducts += accepted(&|run| is_long(run.x));
-        self.slips_by_tendon_length += accepted(&|run| !sets && run.has_duct() && run.slips_at_section());
-        self.sets_along_duct += usize::from(sets);
-        self.sets_that_die_out += accepted(&|run| sets && !run.slips_at_section());
-        self.sets_at_section += accepted(&|run| sets && run.slips_at_section());
-        self.sets_that_leave_too_little += usize::from(sets && *due == Err((refused::STRESS, 0)));
+        self.sets_along_duct += usize::from(case.sets_along_duct());
+        self.sets_that_leave_too_little += usize::from(case.sets_along_duct() && *due == Err((refused::STRESS, 0)));
+        if let (Ok(run), Some(slipped)) = (due, case.answer.slipped) {
+            self.count_accepted(run, slipped.going_on());
+        }
+        self.second_paths.count(case);
+    }
+
+    /// Of a run, and the path that goes on.
+    fn count_accepted(&mut self, run: &Run, path: SlippedPath) {
+        let (sets, slips) = (path.sets_along_duct(), path.slip > 0);
+        self.most_ages += usize::from(run.rows.len() == MOST_AGES as usize);
+        self.gains += usize::from(run.gains());
+        self.long_ducts += usize::from(is_long(path.x));
+        self.slips_by_tendon_length += usize::from(!sets && path.has_duct() && slips);
+        self.sets_that_die_out += usize::from(sets && !slips);
+        self.sets_at_section += usize::from(sets && slips);
     }
 
     fn hold(&self, unseen: &[u64]) {
@@ -284,6 +328,117 @@ impl Tally {
             ("accepted with a set that reaches the section", self.sets_at_section, LEAST_COUNT),
             ("set along a duct and refused with 7 before the ages", self.sets_that_leave_too_little, LEAST_COUNT),
         ]);
+        self.second_paths.hold();
+    }
+}
+
+/// How many cases with a second path are of each kind below.
+#[derive(Default)]
+struct SecondPathTally {
+    made: usize,
+    count_out_of_range: usize,
+    over_most_x_alone: usize,
+    a_tick_too_long: usize,
+    a_tick_too_short: usize,
+    sets_too_far: [usize; 2],
+    sets_too_far_before_too_little: usize,
+    too_little: usize,
+    a_foot_apart: usize,
+    first_goes_on: usize,
+    second_goes_on: usize,
+    ties: usize,
+    ties_by_other_losses: usize,
+    without_first: usize,
+    both_follow_w5: usize,
+    first_follows_w5: usize,
+    second_follows_w5: usize,
+    neither_follows_w5: usize,
+    less_friction_left: usize,
+    too_little_left: usize,
+}
+
+impl SecondPathTally {
+    fn count(&mut self, case: &Case) {
+        let Case { member, answer: Answer { due, slipped }, .. } = case;
+        self.made += usize::from(case.both_ends);
+        self.count_out_of_range += usize::from(*due == Err((refused::RANGE, SecondSegments.number() as u64)));
+        let Some(member) = member.as_ref().filter(|member| member.has_second_path()) else { return };
+        self.count_duct(member, due);
+        if let Some(Slipped { first, second: Some(second) }) = *slipped {
+            self.count_slipped(member, due, first, second);
+        }
+    }
+
+    /// Of a second path that is checked with its duct.
+    fn count_duct(&mut self, member: &Member, due: &Result<Run, Refusal>) {
+        let [first, second] = [member.first_path(), member.second_path()];
+        let both = (member.path_length(&first) + member.path_length(&second)) as i128;
+        let longer = both - i128::from(member.0[Length.at()]);
+        let (refused_15, foot) = (*due == Err((refused::PATH_LENGTHS, Length.number() as u64)), MOST_APART as i128);
+        self.over_most_x_alone += usize::from(*due == Err((refused::DUCT, 2)) && member.x(&first) <= MOST_X);
+        self.a_tick_too_long += usize::from(refused_15 && longer == foot + 1);
+        self.a_tick_too_short += usize::from(refused_15 && longer == -foot - 1);
+        self.a_foot_apart += usize::from(due.is_ok() && longer.abs() == foot);
+    }
+
+    /// Of two paths that have come to the slip.
+    fn count_slipped(&mut self, member: &Member, due: &Result<Run, Refusal>, first: SlippedPath, second: SlippedPath) {
+        let passes = |path: SlippedPath| path.anchor_set.is_some_and(|set| set.passes(member.0[Length.at()].into()));
+        match due {
+            Err((refused::ANCHOR_SET, _)) => {
+                self.sets_too_far[usize::from(!passes(first))] += 1;
+                self.sets_too_far_before_too_little += usize::from(first.is_spent() && second.is_spent());
+            }
+            Err((refused::STRESS, 0)) => self.too_little += usize::from(first.is_spent() && second.is_spent()),
+            Ok(_) => self.count_accepted(member, first, second),
+            _ => {}
+        }
+    }
+
+    fn count_accepted(&mut self, member: &Member, first: SlippedPath, second: SlippedPath) {
+        let (of_first, of_second) = (first.left(), second.left());
+        let (left, goes_on) = if of_first < of_second { (first, second) } else { (second, first) };
+        self.first_goes_on += usize::from(of_first > of_second);
+        self.second_goes_on += usize::from(of_first < of_second);
+        self.ties += usize::from(of_first == of_second);
+        self.ties_by_other_losses += usize::from(of_first == of_second && first.friction != second.friction);
+        self.without_first += usize::from(member.first_path().is_empty());
+        self.less_friction_left += usize::from(left.friction < goes_on.friction);
+        self.too_little_left += usize::from(left.is_spent());
+        match (first.anchor_set.is_some(), second.anchor_set.is_some()) {
+            (true, true) => self.both_follow_w5 += 1,
+            (true, false) => self.first_follows_w5 += 1,
+            (false, true) => self.second_follows_w5 += 1,
+            (false, false) => self.neither_follows_w5 += 1,
+        }
+    }
+
+    fn hold(&self) {
+        let [on_first, on_second_alone] = self.sets_too_far;
+        let kinds = [
+            ("refused with 2 at the count of the second path's segments", self.count_out_of_range),
+            ("refused with 4 at 2 for the second path alone", self.over_most_x_alone),
+            ("refused with 15, a foot and a tick too long", self.a_tick_too_long),
+            ("refused with 15, a foot and a tick too short", self.a_tick_too_short),
+            ("two paths, refused with 12 on the first", on_first),
+            ("two paths, refused with 12 on the second alone", on_second_alone),
+            ("two paths, refused with 12 where too little is left on both", self.sets_too_far_before_too_little),
+            ("two paths, refused with 7 before the ages, too little left on both", self.too_little),
+            ("two paths, accepted a foot apart from the tendon", self.a_foot_apart),
+            ("two paths, accepted, the first goes on", self.first_goes_on),
+            ("two paths, accepted, the second goes on", self.second_goes_on),
+            ("two paths, accepted with the same stress", self.ties),
+            ("two paths, accepted with the same stress by other losses", self.ties_by_other_losses),
+            ("accepted with a second path alone", self.without_first),
+            ("two paths, accepted, both follow W5", self.both_follow_w5),
+            ("two paths, accepted, the first alone follows W5", self.first_follows_w5),
+            ("two paths, accepted, the second alone follows W5", self.second_follows_w5),
+            ("two paths, accepted, neither follows W5", self.neither_follows_w5),
+            ("two paths, accepted, less friction on the one that is left", self.less_friction_left),
+            ("two paths, accepted with too little stress on the one that is left", self.too_little_left),
+        ];
+        hold_kinds(CASES, &[("made with a second path", self.made, CASES / CASES_TO_A_SECOND_PATH)]);
+        hold_kinds(CASES, &kinds.map(|(kind, count)| (kind, count, LEAST_COUNT)));
     }
 }
 
@@ -369,7 +524,7 @@ fn blank_slips() {
 /// hardly ever shows elsewhere.
 fn elongate_to_a_tick(r: &mut Random, f: &mut [u64]) {
     let member = Member(f.to_vec());
-    if elongation_sheet(&member, SHEET_ROOM).is_err() || member.segments() == 0 {
+    if elongation_sheet(&member, SHEET_ROOM).is_err() || member.first_path().is_empty() {
         return;
     }
     let stretches: Vec<Stretch> = Stretch::all(&member).collect();
@@ -445,12 +600,15 @@ struct SheetTally {
     losses: AnswerCounts,
     without_segments: usize,
     most_segments: usize,
+    second_paths: usize,
+    more_segments_on_second: usize,
     bends: usize,
     long_ducts: usize,
     elongations: usize,
     tick_less_of_stress: usize,
     tick_more_of_stress: usize,
     pretensioned_ducts: usize,
+    pretensioned_second_paths: usize,
     pretensioned_over_most_x: usize,
 }
 
@@ -465,11 +623,13 @@ impl SheetTally {
     }
 
     fn count_accepted(&mut self, paper: &Paper, member: &Member, sheet: &Sheet) {
-        let segments = member.segments();
+        let (mut path, segments) = (member.first_path(), member.first_path().len());
         self.losses.count(&losses(paper, member).due);
         self.without_segments += usize::from(segments == 0);
         self.most_segments += usize::from(segments == MOST_SEGMENTS as usize);
-        self.bends += usize::from((0..segments).any(|i| member.segment_kind(i) == BEND));
+        self.second_paths += usize::from(member.has_second_path());
+        self.more_segments_on_second += usize::from(member.second_path().len() > segments);
+        self.bends += usize::from(path.any(|i| member.segment_kind(i) == BEND));
         self.long_ducts += usize::from(is_long(sheet.x));
         self.elongations += usize::from(sheet.sum() > 0);
         self.tick_less_of_stress += usize::from(shows(member, |at_ends| at_ends - 1));
@@ -480,25 +640,31 @@ impl SheetTally {
         let mut post_tensioned = member.clone();
         post_tensioned.0[Kind.at()] = POST_TENSIONED;
         let over_most_x = elongation_sheet(&post_tensioned, SHEET_ROOM) == Err((refused::DUCT, 2));
-        self.pretensioned_ducts += usize::from(member.segments() > 0);
+        self.pretensioned_ducts += usize::from(!member.first_path().is_empty());
+        self.pretensioned_second_paths += usize::from(member.has_second_path());
         self.pretensioned_over_most_x += usize::from(over_most_x);
     }
 
     fn hold(&self) {
-        let of_sheet = [refused::SHAPE, refused::CODE, refused::RANGE, refused::HOURS, refused::PRETENSIONED, refused::DUCT];
         let of_losses_alone = [refused::SECTION, refused::CREEP, refused::STRESS, refused::OVERSTRESS, refused::ANCHOR_SET];
+        let of_second_path = [refused::SECOND_PATH, refused::PATH_LENGTHS];
         let of_neither = [refused::DOUBLE, refused::BUFFER];
-        self.answers.hold("sheets", &[&of_losses_alone[..], &of_neither].concat());
-        self.losses.hold("losses of cards with a sheet", &[&of_sheet[..], &of_neither].concat());
+        self.answers.hold("sheets", &[&of_losses_alone[..], &of_second_path, &of_neither].concat());
+        // What the sheet checks has passed, but 4 for the second path; 14 comes where 13 does.
+        let passed = [refused::SHAPE, refused::CODE, refused::RANGE, refused::HOURS, refused::PRETENSIONED, refused::SECOND_PATH];
+        self.losses.hold("losses of cards with a sheet", &[&passed[..], &of_neither].concat());
         let kinds = [
             ("a sheet without segments", self.without_segments),
             ("a sheet with the most segments", self.most_segments),
+            ("a sheet of a card with a second path", self.second_paths),
+            ("a sheet of a card with more segments on the second path", self.more_segments_on_second),
             ("a sheet with a bend", self.bends),
             ("a sheet with a long duct", self.long_ducts),
             ("a sheet with an elongation", self.elongations),
             ("a sheet where a tick less of stress shows", self.tick_less_of_stress),
             ("a sheet where a tick more of stress shows", self.tick_more_of_stress),
             ("13 with a duct", self.pretensioned_ducts),
+            ("13 with a second path", self.pretensioned_second_paths),
             ("13 where a post-tensioned member is refused with 4", self.pretensioned_over_most_x),
         ];
         hold_kinds(SHEETS, &kinds.map(|(kind, count)| (kind, count, LEAST_COUNT)));

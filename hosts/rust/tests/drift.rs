@@ -1,23 +1,24 @@
 //! Document 02's W8 on the report program, over pairs of random cards that differ only in jacking stress, by d psi: after the same step the
 //! two stresses differ by at most d psi and 2 psi more for each step done. That the core keeps them within d psi alone is held as well. The
-//! program prints for each card what the papers' method, as the tests write it, gives; along the path, of which it prints only the end, the
-//! stresses are those of that method. Cards whose slip follows W5 are left out.
+//! program prints for each card what the papers' method, as the tests write it, gives; along the paths, of which it prints only the end of
+//! one, the stresses are those of that method. Cards are left out whose slip follows W5, on either path where there are two.
 
 mod paper;
 mod program;
 mod random;
 
 use paper::Field::*;
-use paper::{age, printed_numbers, range, read_card, refused, Answer, Field, Member, Paper, Run};
+use paper::{age, printed_numbers, range, read_card, refused, segment, Answer, Field, Member, Paper, Run, Slipped};
 use paper::{AGE_LINE_NUMBERS, BEFORE_NUMBERS, COLUMNS, HEAD_FIELDS, LEAST_AGES, LIFE, MOST_AGES, PRETENSIONED, SEGMENT_FIELDS};
-use paper::{STRESS_RELIEVED, TICKS};
+use paper::{STRAIGHT, STRESS_RELIEVED, TICKS};
 use program::{on_threads, printed, program};
-use random::{bend, hold_kinds, lines_of, losses, member, with_columns, Random, LEAST_COUNT};
-use std::ops::RangeInclusive;
+use random::{bend, hold_kinds, largest, length_of_paths, lines_of, losses, member, paths_of, segments_of, with_columns};
+use random::{Random, LEAST_COUNT};
 use std::path::Path;
 
-/// Pairs that are compared, a process for each card.
+/// Pairs that are compared, a process for each card, of which at least one in so many has a second path.
 const PAIRS: usize = 20_000;
+const PAIRS_TO_A_SECOND_PATH: usize = 3;
 
 /// Members that are tried for a pair at the most.
 const MOST_TRIES: usize = 1000;
@@ -38,32 +39,39 @@ const LEAST_SWAPPED_PART: f64 = 0.7;
 
 // ---- members
 
-/// Turns the path into bends: it has friction then, but no length, and the slip goes by the tendon's length.
+/// Turns the paths into bends: they have friction then, but no length, and the slip goes by the tendon's length. Two such paths meet none
+/// but a tendon of a foot, in which little slip is borne.
 fn bend_everywhere(r: &mut Random, f: &mut [u64]) {
-    let segments = SEGMENT_FIELDS * f[Segments.at()] as usize;
-    f[HEAD_FIELDS..][..segments].chunks_mut(SEGMENT_FIELDS).for_each(|fields| fields.copy_from_slice(&bend(r)));
+    let [_, second] = paths_of(f);
+    segments_of(f, &(0..second.end)).for_each(|fields| fields.copy_from_slice(&bend(r)));
+    if !second.is_empty() {
+        (f[Length.at()], f[Slip.at()]) = (*range(Length).start(), r.pick(&[0, 1, 4, 16]));
+    }
 }
 
-/// Takes the friction from the duct, and the slip goes by the tendon's length.
+/// Turns one path into bends, which have friction but no length, and the other into straights, which have no friction: the slip goes by the
+/// tendon's length on both.
+fn bend_one_path(r: &mut Random, f: &mut [u64]) {
+    let mut paths = paths_of(f);
+    if r.one_in(2) {
+        paths.reverse();
+    }
+    let [bends, straights] = paths;
+    segments_of(f, &bends).for_each(|fields| fields.copy_from_slice(&bend(r)));
+    segments_of(f, &straights).for_each(|fields| fields.copy_from_slice(&segment(STRAIGHT, r.between(1024, 32_768), 0)));
+    (f[Wobble.at()], f[Length.at()]) = (0, length_of_paths(f).max(*range(Length).start()));
+}
+
+/// Takes the friction from the ducts, and the slip goes by the tendon's length.
 fn without_friction(f: &mut [u64]) {
     [Wobble, Curvature].into_iter().for_each(|field| f[field.at()] = 0);
 }
 
 /// Gives a member the fewest ages, one an hour from here on, and no moment with them.
 fn age_hourly_from(hour: u64, f: &mut Vec<u64>) {
-    f.truncate(HEAD_FIELDS + SEGMENT_FIELDS * f[Segments.at()] as usize);
+    f.truncate(HEAD_FIELDS + SEGMENT_FIELDS * paths_of(f)[1].end);
     f[Ages.at()] = LEAST_AGES;
     f.extend((hour..).take(LEAST_AGES as usize).flat_map(|hour| age(hour, 0)));
-}
-
-/// The largest number of a range at which this holds, if it holds from the range's start up to some number.
-fn largest(range: RangeInclusive<u64>, holds: impl Fn(u64) -> bool) -> u64 {
-    let (mut least, mut most) = range.into_inner();
-    while least < most {
-        let middle = least + (most - least).div_ceil(2);
-        (least, most) = if holds(middle) { (middle, most) } else { (least, middle - 1) };
-    }
-    least
 }
 
 /// The number of the refusal that a member's losses give with another number in a field.
@@ -103,11 +111,12 @@ fn ease(f: &mut Vec<u64>) {
     age_hourly_from(f[Transfer.at()] + 1, f);
 }
 
-/// The fields of a member for a pair. As a rule its duct, if it has one, is such that document 02's W5 does not rule. At times its losses
+/// The fields of a member for a pair. As a rule its ducts, if it has any, are such that document 02's W5 does not rule. At times its losses
 /// are as steep as they can be, or hardly any.
 fn member_of_pair(r: &mut Random, paper: &Paper) -> Vec<u64> {
     let mut f = member(r);
     match r.below(8) {
+        0..=1 if f[SecondSegments.at()] > 0 => bend_one_path(r, &mut f),
         0..=3 => bend_everywhere(r, &mut f),
         4..=6 => without_friction(&mut f),
         _ => {}
@@ -134,10 +143,11 @@ fn other_jacking_stress(r: &mut Random, f: &[u64]) -> u64 {
 
 // ---- pairs
 
-/// A card that document 02's W8 is about, its member, and what the papers give for this.
+/// A card that document 02's W8 is about, its member, and what the papers give for this: its paths at the slip, and its run.
 struct JackedCard {
     card: Vec<u8>,
     member: Member,
+    slipped: Slipped,
     run: Run,
 }
 
@@ -148,20 +158,19 @@ struct Stress {
 }
 
 impl JackedCard {
-    /// None if the card is refused or its slip follows document 02's W5.
+    /// None if the card is refused, or if "either path follows W5" of document 02.
     fn new(paper: &Paper, card: Vec<u8>) -> Option<Self> {
         let member = read_card(&card).ok()?;
-        match losses(paper, &member) {
-            Answer { due: Ok(run), anchor_set: None } => Some(JackedCard { card, member, run }),
-            _ => None,
-        }
+        let Answer { due: Ok(run), slipped: Some(slipped) } = losses(paper, &member) else { return None };
+        let follows_w5 = slipped.paths().any(|path| path.anchor_set.is_some());
+        (!follows_w5).then_some(JackedCard { card, member, slipped, run })
     }
 
     fn jacking_stress(&self) -> u64 {
         self.member.0[JackingStress.at()]
     }
 
-    /// "Steps count s + n + 3", of document 01.
+    /// "Steps count s + n + 3", of document 01, and "the segments of both paths", of document 02's W9.
     fn steps(&self) -> usize {
         self.member.segments() + self.member.ages() + STEPS_BESIDE
     }
@@ -174,27 +183,30 @@ impl JackedCard {
     }
 
     /// The stresses after every step and after the deflector loss, from what is printed. A report does not have those after each segment:
-    /// these are the tests' own, and the last of them has to agree with the friction that is printed.
+    /// these are the tests' own, along the first path and then along the second, and at the end of the path that goes on they have to agree
+    /// with the friction that is printed. The stress after slip is the larger of the two.
     fn stresses(&self, report: &str) -> Vec<Stress> {
         let mut lines = report.lines();
         let before: [u64; BEFORE_NUMBERS] = printed_numbers(lines.next().expect("its first line"));
         let [friction, slip, deflector, early_relaxation, _shortening, after_shortening] = before;
-        let segments = self.member.segments();
+        let paths = self.member.paths();
         let after_friction = self.member.jacked() as u64 - friction;
-        assert_eq!(after_friction, self.member.stress_after_segments(segments) as u64, "friction of {:?}", self.member);
+        let mut at_ends = paths.iter().filter_map(|path| self.member.stresses_along(path).last());
+        assert!(at_ends.any(|stress| stress as u64 == after_friction), "friction of {:?}", self.member);
         let after_slip = after_friction - slip;
+        assert!(self.slipped.paths().all(|path| path.left() <= i128::from(after_slip)), "the larger stress of {:?}", self.member);
         let after_deflector = after_slip - deflector;
         let after_early_relaxation = after_deflector - early_relaxation;
 
-        let along_path = (1..=segments).map(|first| self.member.stress_after_segments(first) as u64);
+        let along_paths = paths.iter().flat_map(|path| self.member.stresses_along(path).skip(1)).map(|stress| stress as u64);
         let after_ages = lines.map(|line| {
             let [_number, _hour, _creep, _shrinkage, _relaxation, stress, _gain]: [u64; AGE_LINE_NUMBERS] = printed_numbers(line);
             stress
         });
-        let up_to_slip = along_path.chain([after_slip]);
+        let up_to_slip = along_paths.chain([after_slip]);
         let from_deflector = [after_deflector, after_early_relaxation, after_shortening].into_iter().chain(after_ages);
         // The deflector loss "is exact and no step", so that as many are done after it as after slip.
-        let stresses = (1..).zip(up_to_slip).chain((segments + 1..).zip(from_deflector));
+        let stresses = (1..).zip(up_to_slip).chain((self.member.segments() + 1..).zip(from_deflector));
         stresses.map(|(steps_done, ticks)| Stress { steps_done, ticks }).collect()
     }
 }
@@ -259,6 +271,11 @@ struct PairTally {
     without_segments: usize,
     bends: usize,
     without_friction: usize,
+    second_paths: usize,
+    second_goes_on: usize,
+    first_goes_on: usize,
+    friction_on_both: usize,
+    ties: usize,
     low_relaxation: usize,
     slips: usize,
     deflectors: usize,
@@ -274,14 +291,15 @@ struct PairTally {
 
 impl PairTally {
     fn count(&mut self, pair: &Pair, distances: &[Distance]) {
-        let Pair { lower: JackedCard { member, run, .. }, .. } = pair;
+        let Pair { lower: JackedCard { member, slipped, run, .. }, .. } = pair;
         let (segments, pretensioned) = (member.segments(), member.0[Kind.at()] == PRETENSIONED);
         self.a_psi_apart += usize::from(pair.psi_apart() == 1);
         self.far_apart += usize::from(pair.psi_apart() >= FAR_APART);
         self.pretensioned += usize::from(pretensioned);
         self.without_segments += usize::from(!pretensioned && segments == 0);
-        self.bends += usize::from(run.path_length == 0 && run.x > 0);
-        self.without_friction += usize::from(run.path_length > 0 && run.x == 0);
+        self.bends += usize::from(slipped.paths().any(|path| path.length == 0 && path.x > 0));
+        self.without_friction += usize::from(slipped.paths().any(|path| path.length > 0 && path.x == 0));
+        self.count_second_path(slipped);
         let [_friction, slip, deflector, early_relaxation, _shortening, _stress] = run.before;
         self.low_relaxation += usize::from(member.0[Steel.at()] != STRESS_RELIEVED);
         self.slips += usize::from(slip > 0);
@@ -291,6 +309,16 @@ impl PairTally {
         self.gains += usize::from(run.gains());
         let (after_slip, after_ages) = (&distances[segments], &distances[distances.len() - run.rows.len()..]);
         self.count_distances(pair.psi_apart() * TICKS_OF_PSI, after_slip, after_ages);
+    }
+
+    fn count_second_path(&mut self, slipped: &Slipped) {
+        let Slipped { first, second: Some(second) } = slipped else { return };
+        let (of_first, of_second) = (first.left(), second.left());
+        self.second_paths += 1;
+        self.first_goes_on += usize::from(of_first > of_second);
+        self.second_goes_on += usize::from(of_first < of_second);
+        self.ties += usize::from(of_first == of_second);
+        self.friction_on_both += usize::from(first.friction > 0 && second.friction > 0 && first.friction != second.friction);
     }
 
     /// Of a pair so many ticks apart at the jack.
@@ -310,8 +338,12 @@ impl PairTally {
             ("pairs 10,000 psi apart or more", self.far_apart),
             ("pretensioned pairs", self.pretensioned),
             ("post-tensioned pairs without segments", self.without_segments),
-            ("pairs of bends only, with friction", self.bends),
+            ("pairs with a path of bends only, with friction", self.bends),
             ("pairs with a path of some length, but no friction", self.without_friction),
+            ("pairs with two paths, of which the first goes on", self.first_goes_on),
+            ("pairs with two paths, of which the second goes on", self.second_goes_on),
+            ("pairs with two paths and other friction on each", self.friction_on_both),
+            ("pairs with two paths and the same stress on both", self.ties),
             ("pairs with low-relaxation steel", self.low_relaxation),
             ("pairs with a slip", self.slips),
             ("pairs with a deflector loss", self.deflectors),
@@ -324,6 +356,7 @@ impl PairTally {
             ("pairs where the member jacked higher has the smaller stress at some age", self.swapped),
         ];
         hold_kinds(PAIRS, &kinds.map(|(kind, count)| (kind, count, LEAST_COUNT)));
+        hold_kinds(PAIRS, &[("pairs with two paths", self.second_paths, PAIRS / PAIRS_TO_A_SECOND_PATH)]);
         println!("the largest part of d by which such a pair is apart then: {:.4}", self.largest_swapped_part);
         assert!(self.largest_swapped_part >= LEAST_SWAPPED_PART, "no pair comes as far apart as {LEAST_SWAPPED_PART} d");
     }

@@ -1,4 +1,5 @@
 -- `list::read_fields` meets its contract: each part is read behind those before it, or a field of it is refused. Assumes nothing.
+use mathlib.Core.Path.{sym}
 use native.Mathlib.Omega.{arith}
 use borrow.Author.Rules.{rules}
 use Rattle.std.specs.Prelude.{◌≡◌, ◌-◌, length, Err}
@@ -12,6 +13,12 @@ use Rattle.list.proofs.Parts.{first_age, before_ages, head_in, ages_in, head_len
 use Rattle.list.proofs.Parts.{head_refused, before_ages_refused, segments_written, ages_written}
 use Rattle.list.proofs.read_fields.Goals as goal
 use Rattle.list.proofs.read_fields.Goals.{After-write, After-map_err}
+
+pub slice_bounds-head-end : goal.slice_bounds-head-end
+slice_bounds-head-end c = sym (head_length c.args.list.now c.args.segments c.requires.segments_listed)
+
+pub of-section-requires : goal.of-section-requires
+of-section-requires c = omega (arith, head_length c.args.list.now c.args.segments c.requires.segments_listed)
 
 pub write-requires-clause-callable : goal.write-requires-clause-callable
 write-requires-clause-callable c = λ at h κs p e r l u v w.

@@ -3,7 +3,7 @@
 
 #![allow(dead_code)]
 
-use std::ops::RangeInclusive;
+use std::ops::{Range, RangeInclusive};
 use Field::*;
 
 // ---- the table of fields
@@ -35,6 +35,7 @@ pub enum Field {
     Curvature,
     Segments,
     Ages,
+    SecondSegments,
 }
 
 impl Field {
@@ -49,7 +50,7 @@ impl Field {
 }
 
 /// The last field of each line of the head.
-const LAST_OF_LINES: [Field; 4] = [Length, VolumeToSurface, OwnWeightMoment, Ages];
+const LAST_OF_LINES: [Field; 4] = [Length, VolumeToSurface, OwnWeightMoment, SecondSegments];
 pub const HEAD_LINES: usize = LAST_OF_LINES.len();
 pub const HEAD_FIELDS: usize = LAST_OF_LINES[HEAD_LINES - 1].number();
 
@@ -97,7 +98,7 @@ pub const FIRST_CODE: u64 = 1;
 pub const LAST_CODE: u64 = 2;
 
 /// The ends of each field's range. The jacking stress is at most 0.80 F beside, the deflector loss 0 if post-tensioned.
-pub const RANGES: [(Field, u64, u64); 18] = [
+pub const RANGES: [(Field, u64, u64); 19] = [
     (UltimateStrength, 100_000, MOST_STRENGTH),
     (JackingStress, 1000, MOST_STRENGTH * 8 / 10),
     (DeflectorLoss, 0, 20_000),
@@ -116,6 +117,7 @@ pub const RANGES: [(Field, u64, u64); 18] = [
     (Curvature, 0, 400_000),
     (Segments, 0, MOST_SEGMENTS),
     (Ages, LEAST_AGES, MOST_AGES),
+    (SecondSegments, 0, MOST_SEGMENTS),
 ];
 pub const MOST_STRENGTH: u64 = 300_000;
 pub const MOST_MOMENTS: u64 = 1 << 40;
@@ -127,10 +129,11 @@ pub const LEAST_TRANSFER_IF_MOIST: u64 = 72;
 pub const MOST_TRANSFER: u64 = 960;
 pub const MOST_CURING_IF_MOIST: u64 = 168;
 pub const LIFE: u64 = 438_000;
-const MOST_X: u128 = 3 * T / 2; // 1.5 T, of document 02's W3
+pub const MOST_X: u128 = 3 * T / 2; // 1.5 T, of document 02's W3
 const MOST_KAPPA: u128 = 1 << 30;
 const MOST_CREEP: u128 = 1 << 56;
 const LEAST_STRESS: u128 = 1000 * TICKS;
+pub const MOST_APART: u128 = TICKS; // "one foot", of document 02's W9
 
 /// A field's range.
 pub fn range(field: Field) -> RangeInclusive<u64> {
@@ -151,12 +154,12 @@ pub fn head_lines() -> [usize; HEAD_LINES] {
     LAST_OF_LINES.map(|last| last.number() - std::mem::replace(&mut before, last.number()))
 }
 
-/// How many fields each line of a card has.
+/// How many fields each line of a card has, with so many segments on both paths together.
 pub fn lines(segments: usize, ages: usize) -> Vec<usize> {
     [&head_lines()[..], &vec![SEGMENT_FIELDS; segments], &vec![AGE_FIELDS; ages]].concat()
 }
 
-/// The number of a field of a segment, and of an age, the first being 0.
+/// The number of a field of a segment, and of an age, the first being 0. The second path's segments count on from those of the first.
 fn number_in_segment(segment: usize, field: OfSegment) -> usize {
     HEAD_FIELDS + 1 + SEGMENT_FIELDS * segment + field as usize
 }
@@ -165,7 +168,7 @@ fn number_in_age(segments: usize, age: usize, field: OfAge) -> usize {
     HEAD_FIELDS + 1 + SEGMENT_FIELDS * segments + AGE_FIELDS * age + field as usize
 }
 
-/// Whether the field of a number is kept in ticks, or is whole.
+/// Whether the field of a number is kept in ticks, or is whole, with so many segments on both paths together.
 pub fn in_ticks(number: usize, segments: usize) -> bool {
     if number <= HEAD_FIELDS {
         return IN_TICKS.iter().any(|field| field.number() == number);
@@ -197,7 +200,9 @@ pub mod refused {
     pub const OVERSTRESS: u64 = 11;
     pub const ANCHOR_SET: u64 = 12;
     pub const PRETENSIONED: u64 = 13;
-    pub const LAST: u64 = PRETENSIONED;
+    pub const SECOND_PATH: u64 = 14;
+    pub const PATH_LENGTHS: u64 = 15;
+    pub const LAST: u64 = PATH_LENGTHS;
 }
 
 /// A card or a list as it is read: all its fields, by their numbers less 1.
@@ -209,8 +214,30 @@ impl Member {
         u128::from(self.0[field.at()])
     }
 
+    /// Those of both paths.
     pub fn segments(&self) -> usize {
-        self.0[Segments.at()] as usize
+        self.first_path().len() + self.second_path().len()
+    }
+
+    /// The first path, by where its segments stand among all; without one it is empty.
+    pub fn first_path(&self) -> Path {
+        0..self.0[Segments.at()] as usize
+    }
+
+    /// The second path, "from the far end to the section"; without one it is empty.
+    pub fn second_path(&self) -> Path {
+        let start = self.first_path().end;
+        start..start + self.0[SecondSegments.at()] as usize
+    }
+
+    pub fn has_second_path(&self) -> bool {
+        !self.second_path().is_empty()
+    }
+
+    /// The first path, and the second if there is one.
+    pub fn paths(&self) -> Vec<Path> {
+        let second = self.has_second_path().then(|| self.second_path());
+        [self.first_path()].into_iter().chain(second).collect()
     }
 
     pub fn ages(&self) -> usize {
@@ -256,6 +283,9 @@ impl Member {
     }
 }
 
+/// The segments of a path, the first of all being 0.
+pub type Path = Range<usize>;
+
 pub type Reading = Result<Member, Refusal>;
 
 /// The losses before the ages and the stress after them; and creep, shrinkage, relaxation, stress and gain of an age.
@@ -263,18 +293,15 @@ pub const BEFORE_NUMBERS: usize = 6;
 pub const ROW_NUMBERS: usize = 5;
 /// On the line that a report has for an age, its number and hour stand before these.
 pub const AGE_LINE_NUMBERS: usize = 2 + ROW_NUMBERS;
-const BEFORE_SLIP: usize = 1;
 const ROW_STRESS: usize = 3;
 const ROW_GAIN: usize = 4;
 
 /// Numbers of scratch that an age needs.
 pub const SCRATCH_NUMBERS_OF_AGE: usize = ROW_NUMBERS;
 
-/// An accepted run, and the X and the length of its path, this in ticks of foot.
+/// An accepted run.
 #[derive(Debug, Clone, PartialEq)]
 pub struct Run {
-    pub x: u128,
-    pub path_length: u128,
     pub before: [u64; BEFORE_NUMBERS],
     pub rows: Vec<[u64; ROW_NUMBERS]>,
 }
@@ -290,16 +317,6 @@ impl Run {
         self.rows.iter().any(|row| row[ROW_GAIN] > 0)
     }
 
-    /// Whether there is a duct: a path with friction or a length.
-    pub fn has_duct(&self) -> bool {
-        self.x > 0 || self.path_length > 0
-    }
-
-    /// Whether the slip takes stress at the section.
-    pub fn slips_at_section(&self) -> bool {
-        self.before[BEFORE_SLIP] > 0
-    }
-
     /// What the report program prints for a member with this run: the losses before the ages and the stress after them, then each age's
     /// number, hour and row.
     pub fn report(&self, member: &Member) -> String {
@@ -308,18 +325,72 @@ impl Run {
     }
 }
 
-/// What the papers give for a member: a run or its refusal; and the anchor set, if the run came to the slip and document 02's W5 ruled
-/// there.
+/// What the papers give for a member: a run or its refusal; and, if the run came to the slip, what its paths have come to there.
 #[derive(Debug, Clone, PartialEq)]
 pub struct Answer {
     pub due: Result<Run, Refusal>,
-    pub anchor_set: Option<AnchorSet>,
+    pub slipped: Option<Slipped>,
 }
 
 impl From<Refusal> for Answer {
     /// Refused before the slip.
     fn from(refusal: Refusal) -> Self {
-        Answer { due: Err(refusal), anchor_set: None }
+        Answer { due: Err(refusal), slipped: None }
+    }
+}
+
+/// The first path, and the second if there is one, with what each has lost to friction and slip by itself.
+#[derive(Debug, Clone, Copy, PartialEq)]
+pub struct Slipped {
+    pub first: SlippedPath,
+    pub second: Option<SlippedPath>,
+}
+
+impl Slipped {
+    pub fn paths(&self) -> impl Iterator<Item = SlippedPath> {
+        [self.first].into_iter().chain(self.second)
+    }
+
+    /// The path whose stress "goes on, the first path's if they are equal".
+    pub fn going_on(&self) -> SlippedPath {
+        match self.second {
+            Some(second) if second.left() > self.first.left() => second,
+            _ => self.first,
+        }
+    }
+}
+
+/// A path at the section, by itself: its X and its length in ticks of foot; the jacking stress, and what friction and slip take of it, in
+/// ticks of psi; and the anchor set, if document 02's W5 rules.
+#[derive(Debug, Clone, Copy, PartialEq)]
+pub struct SlippedPath {
+    pub x: u128,
+    pub length: u128,
+    jacked: u128,
+    pub friction: u128,
+    pub slip: u128,
+    pub anchor_set: Option<AnchorSet>,
+}
+
+impl SlippedPath {
+    /// The stress after slip, which may be less than none.
+    pub fn left(&self) -> i128 {
+        self.jacked as i128 - self.friction as i128 - self.slip as i128
+    }
+
+    /// Whether number 7 would look at too little stress here.
+    pub fn is_spent(&self) -> bool {
+        self.left() < LEAST_STRESS as i128
+    }
+
+    /// Whether there is a duct: friction or a length.
+    pub fn has_duct(&self) -> bool {
+        self.x > 0 || self.length > 0
+    }
+
+    /// Whether the wedges draw in along the duct: W5 rules, and the drop at the jack is above 0.
+    pub fn sets_along_duct(&self) -> bool {
+        self.anchor_set.is_some_and(|set| set.drop_at_jack > 0)
     }
 }
 
@@ -387,7 +458,7 @@ impl AnchorSet {
     }
 
     /// Whether the affected length Z·P/(2d), unrounded, passes a length.
-    fn passes(&self, length: u128) -> bool {
+    pub fn passes(&self, length: u128) -> bool {
         self.drop_at_jack * self.path_length > 2 * self.friction * length
     }
 
@@ -408,7 +479,7 @@ fn largest_root(times: u128, most: u128) -> u128 {
 
 const T: u128 = 1 << 24;
 pub const TICKS: u128 = 1024;
-const INCHES_OF_FOOT: u128 = 12;
+pub const INCHES_OF_FOOT: u128 = 12;
 const MILLION: u128 = 1_000_000;
 const DAY: u128 = 24;
 
@@ -536,9 +607,10 @@ pub fn read_card(card: &[u8]) -> Reading {
         Ok(at)
     };
     read(&head_lines(), &mut fields)?;
-    let segments = check_count(Segments, fields[Segments.at()])?;
+    let first = check_count(Segments, fields[Segments.at()])?;
     let ages = check_count(Ages, fields[Ages.at()])?;
-    let lines = lines(segments, ages);
+    let second = check_count(SecondSegments, fields[SecondSegments.at()])?;
+    let lines = lines(first + second, ages);
     let end = read(&lines[HEAD_LINES..], &mut fields)?;
     check(end == card.len(), refused::SHAPE, lines.len() + 1)?;
     Ok(Member(fields))
@@ -561,7 +633,8 @@ pub fn read_list(list: &[u64]) -> Reading {
         let count = double(list[field.at()], false).ok_or((refused::DOUBLE, field.number() as u64))?;
         check_count(field, count)
     };
-    let (segments, ages) = (count(Segments)?, count(Ages)?);
+    let (first, ages, second) = (count(Segments)?, count(Ages)?, count(SecondSegments)?);
+    let segments = first + second;
     check(list.len() == lines(segments, ages).iter().sum(), refused::SHAPE, 0)?;
     let mut fields = Vec::new();
     for (i, &bits) in list.iter().enumerate() {
@@ -653,9 +726,26 @@ fn check_hours(member: &Member) -> Result<(), Refusal> {
     Ok(())
 }
 
-/// The X of the path, if it is not too large.
-fn check_x(member: &Member) -> Result<u128, Refusal> {
-    let x = member.x(member.segments());
+/// The row of the duct, as the losses have it with document 02's W9 in it.
+fn check_duct(member: &Member) -> Result<(), Refusal> {
+    let (first, second) = (member.first_path(), member.second_path());
+    if member.pretensioned() {
+        check(first.is_empty(), refused::DUCT, 1)?;
+        check(second.is_empty(), refused::SECOND_PATH, 2)?;
+    }
+    for path in member.paths() {
+        check_x(member, &path)?;
+    }
+    if member.has_second_path() {
+        let both = member.path_length(&first) + member.path_length(&second);
+        check(both.abs_diff(member.field(Length)) <= MOST_APART, refused::PATH_LENGTHS, Length.number())?;
+    }
+    Ok(())
+}
+
+/// The X of a path, if it is not too large.
+fn check_x(member: &Member, path: &Path) -> Result<u128, Refusal> {
+    let x = member.x(path);
     check(x <= MOST_X, refused::DUCT, 2).map(|()| x)
 }
 
@@ -681,9 +771,9 @@ impl Member {
         wobble + curvature
     }
 
-    /// "the stress after j segments takes X of the first j".
-    fn x(&self, first: usize) -> u128 {
-        (0..first).map(|i| self.x_of_segment(i)).sum()
+    /// The X of a path or of a part of it.
+    pub fn x(&self, path: &Path) -> u128 {
+        path.clone().map(|i| self.x_of_segment(i)).sum()
     }
 
     /// "the stress left, rounded down", of document 02's W3, behind segments of this X.
@@ -691,25 +781,44 @@ impl Member {
         self.jacked() * friction_factor(x) / T
     }
 
-    /// The stress before slip behind the first so many segments.
-    pub fn stress_after_segments(&self, first: usize) -> u128 {
-        self.stress_left(self.x(first))
+    /// The stresses before slip along a path, from the jack on: "the stress after j segments takes X of the first j".
+    pub fn stresses_along(&self, path: &Path) -> impl Iterator<Item = u128> + '_ {
+        let start = path.start;
+        (start..=path.end).map(move |end| self.stress_left(self.x(&(start..end))))
     }
 
     /// In ticks of foot.
-    fn path_length(&self) -> u128 {
-        (0..self.segments()).map(|i| self.segment(i, OfSegment::Length)).sum()
+    pub fn path_length(&self, path: &Path) -> u128 {
+        path.clone().map(|i| self.segment(i, OfSegment::Length)).sum()
+    }
+
+    /// What friction takes along a path, document 02's d.
+    pub fn friction(&self, path: &Path) -> u128 {
+        self.jacked() - self.stress_left(self.x(path))
+    }
+
+    /// Document 01's step 2, which document 02's W5 leaves to paths without friction or without length.
+    pub fn slip_over_tendon(&self) -> u128 {
+        self.field(Es) * self.field(Slip) * TICKS / (INCHES_OF_FOOT * self.field(Length))
+    }
+
+    /// A path by itself from the jacking stress, friction and then slip, with nothing checked.
+    fn slipped(&self, path: &Path) -> SlippedPath {
+        let (x, length, friction) = (self.x(path), self.path_length(path), self.friction(path));
+        let anchor_set = AnchorSet::along(length, friction, self.field(Es), self.field(Slip));
+        let slip = anchor_set.map_or_else(|| self.slip_over_tendon(), |set| set.drop_at_section());
+        SlippedPath { x, length, jacked: self.jacked(), friction, slip, anchor_set }
     }
 }
 
 // ---- the elongation sheet
 
-/// The sheet of a member with so many numbers of room, of document 02's W7.
+/// The sheet of a member with so many numbers of room, of document 02's W7. It "keeps to the first path", by W9.
 pub fn elongation_sheet(member: &Member, room: usize) -> Result<Sheet, Refusal> {
     check_fields(member)?;
     check(!member.pretensioned(), refused::PRETENSIONED, 1)?;
-    let x = check_x(member)?;
-    check(room >= member.segments(), refused::BUFFER, 1)?;
+    let x = check_x(member, &member.first_path())?;
+    check(room >= member.first_path().len(), refused::BUFFER, 1)?;
     let elongations = Stretch::all(member).map(|stretch| stretch.elongation(member.0[Es.at()])).collect();
     Ok(Sheet { x, elongations })
 }
@@ -722,14 +831,13 @@ pub struct Stretch {
 }
 
 impl Stretch {
-    fn new(member: &Member, segment: usize) -> Self {
-        let at_ends = member.stress_after_segments(segment) + member.stress_after_segments(segment + 1);
-        Stretch { at_ends, length: INCHES_OF_FOOT * member.segment(segment, OfSegment::Length) }
-    }
-
-    /// Those of a member's segments, if the duct's check lets its X pass.
+    /// Those of the first path's segments, if the duct's check lets its X pass.
     pub fn all(member: &Member) -> impl Iterator<Item = Self> + '_ {
-        (0..member.segments()).map(|i| Stretch::new(member, i))
+        let path = member.first_path();
+        let ends = member.stresses_along(&path).zip(member.stresses_along(&path).skip(1));
+        path.zip(ends).map(|(segment, (before, after))| {
+            Stretch { at_ends: before + after, length: INCHES_OF_FOOT * member.segment(segment, OfSegment::Length) }
+        })
     }
 
     /// "the mean of the stresses at its ends before slip, times its length over Es, in ticks of inch, rounded down only once".
@@ -757,16 +865,15 @@ impl Paper {
 
     /// The run of a member with so many numbers of room in report and scratch.
     pub fn run(&self, member: &Member, report: usize, scratch: usize) -> Answer {
-        let mut anchor_set = None;
-        let due = self.steps(member, report, scratch, &mut anchor_set);
-        Answer { due, anchor_set }
+        let mut slipped = None;
+        let due = self.steps(member, report, scratch, &mut slipped);
+        Answer { due, slipped }
     }
 
-    /// The checks and the steps. What rules at the slip stays in `anchor_set`, also if the run is refused there or later.
-    fn steps(&self, member: &Member, report: usize, scratch: usize, anchor_set: &mut Option<AnchorSet>) -> Result<Run, Refusal> {
+    /// The checks and the steps. What the paths come to at the slip stays in `slipped`, also if the run is refused there or later.
+    fn steps(&self, member: &Member, report: usize, scratch: usize, slipped: &mut Option<Slipped>) -> Result<Run, Refusal> {
         check_fields(member)?;
-        check(!member.pretensioned() || member.segments() == 0, refused::DUCT, 1)?;
-        let x = check_x(member)?;
+        check_duct(member)?;
 
         let ages = member.ages();
         check(report >= ROW_NUMBERS * ages, refused::BUFFER, 1)?;
@@ -819,17 +926,18 @@ impl Paper {
         let g = |moments: u128| moments * eccentricity / inertia;
         let c = |stress: u128, moments: u128| (stress * kappa >> 32).saturating_sub(g(moments));
 
-        let (jacked, path_length) = (member.jacked(), member.path_length());
-        let friction = jacked - member.stress_left(x);
+        let jacked = member.jacked();
+        if !member.has_second_path() {
+            // Here 7 looks at what friction leaves before 12 comes; "ahead of any 7 if there are two".
+            lose(jacked, member.friction(&member.first_path()), 0)?;
+        }
+        let second = member.has_second_path().then(|| member.slipped(&member.second_path()));
+        let both = *slipped.insert(Slipped { first: member.slipped(&member.first_path()), second });
+        for set in both.paths().filter_map(|path| path.anchor_set) {
+            check(!set.passes(f(Length)), refused::ANCHOR_SET, Length.number())?;
+        }
+        let SlippedPath { friction, slip, .. } = both.going_on();
         let mut stress = lose(jacked, friction, 0)?;
-        *anchor_set = AnchorSet::along(path_length, friction, es, f(Slip));
-        let slip = match anchor_set {
-            Some(set) => {
-                check(!set.passes(f(Length)), refused::ANCHOR_SET, Length.number())?;
-                set.drop_at_section()
-            }
-            None => es * f(Slip) * TICKS / (INCHES_OF_FOOT * f(Length)),
-        };
         stress = lose(stress, slip, 0)?;
         let deflector = f(DeflectorLoss) * TICKS;
         stress = lose(stress, deflector, 0)?;
@@ -856,6 +964,6 @@ impl Paper {
             rows.push([creep, shrinks, relaxes, stress, gain].map(|v| v as u64));
             (start, moments) = (hour, moments_after);
         }
-        Ok(Run { x, path_length, before, rows })
+        Ok(Run { before, rows })
     }
 }

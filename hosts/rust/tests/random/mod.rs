@@ -3,10 +3,12 @@
 #![allow(dead_code)]
 
 use crate::paper::Field::*;
-use crate::paper::{age, head_lines, segment, Answer, Field, Member, Paper};
-use crate::paper::{ACCELERATED, AGE_FIELDS, BEND, COLUMNS, FIRST_CODE, HEAD_FIELDS, LAST_CODE, LEAST_AGES, LEAST_TRANSFER};
-use crate::paper::{LEAST_TRANSFER_IF_MOIST, LIFE, MOIST, MOST_AGES, MOST_CURING_IF_MOIST, MOST_SEGMENTS, MOST_STRENGTH, MOST_TRANSFER};
-use crate::paper::{PARABOLA, POST_TENSIONED, PRETENSIONED, ROW_NUMBERS, SCRATCH_NUMBERS_OF_AGE, SEGMENT_FIELDS, STRAIGHT};
+use crate::paper::{age, head_lines, range, segment, Answer, Field, Member, OfSegment, Paper, Path};
+use crate::paper::{ACCELERATED, AGE_FIELDS, BEND, COLUMNS, FIRST_CODE, HEAD_FIELDS, INCHES_OF_FOOT, LAST_CODE, LEAST_AGES};
+use crate::paper::{LEAST_TRANSFER, LEAST_TRANSFER_IF_MOIST, LIFE, MOIST, MOST_AGES, MOST_APART, MOST_CURING_IF_MOIST, MOST_SEGMENTS};
+use crate::paper::{MOST_STRENGTH, MOST_TRANSFER, MOST_X, PARABOLA, POST_TENSIONED, PRETENSIONED, ROW_NUMBERS, SCRATCH_NUMBERS_OF_AGE};
+use crate::paper::{SEGMENT_FIELDS, STRAIGHT, TICKS};
+use std::ops::RangeInclusive;
 
 /// Each answer and kind comes up at least so often.
 pub const LEAST_COUNT: usize = 50;
@@ -107,7 +109,19 @@ fn head(r: &mut Random) -> Vec<u64> {
         set(Segments, 0);
     }
     set(Ages, ages(r));
+    // In all, somewhat more than half of the members have a second path.
+    let both_ends = if kind == PRETENSIONED { r.one_in(8) } else { !r.one_in(4) };
+    set(SecondSegments, if both_ends { second_segments(r) } else { 0 });
     fields
+}
+
+/// How many segments a second path has.
+fn second_segments(r: &mut Random) -> u64 {
+    match r.below(8) {
+        0 => MOST_SEGMENTS,
+        1..=2 => r.between(16, MOST_SEGMENTS),
+        _ => r.between(1, 8),
+    }
 }
 
 /// How many ages a member has. At times they are too many, each with its line.
@@ -124,21 +138,33 @@ pub fn bend(r: &mut Random) -> [u64; SEGMENT_FIELDS] {
     segment(BEND, 0, r.below(200))
 }
 
+/// The fields of a straight.
+fn straight(r: &mut Random) -> [u64; SEGMENT_FIELDS] {
+    let longest = if r.one_in(8) { 8 } else { 65_536 };
+    segment(STRAIGHT, r.between(1, longest), 0)
+}
+
+/// The fields of the segments of a path.
+fn path(r: &mut Random, segments: u64) -> Vec<[u64; SEGMENT_FIELDS]> {
+    let kind = |r: &mut Random| match r.pick(&[STRAIGHT, PARABOLA, BEND]) {
+        STRAIGHT => straight(r),
+        PARABOLA => segment(PARABOLA, r.between(8192, 131_072), r.below(2048)),
+        _ => bend(r),
+    };
+    (0..segments).map(|_| kind(r)).collect()
+}
+
 /// The fields of a member that is often accepted.
 pub fn member(r: &mut Random) -> Vec<u64> {
     let mut f = head(r);
-    let (segments, ages) = (f[Segments.at()], f[Ages.at()]);
-    for _ in 0..segments {
-        f.extend(match r.pick(&[STRAIGHT, PARABOLA, BEND]) {
-            STRAIGHT if r.one_in(8) => segment(STRAIGHT, r.between(1, 8), 0),
-            STRAIGHT => segment(STRAIGHT, r.between(1, 65_536), 0),
-            PARABOLA => segment(PARABOLA, r.between(8192, 131_072), r.below(2048)),
-            _ => bend(r),
-        });
+    let segments = [path(r, f[Segments.at()]), path(r, f[SecondSegments.at()])].concat();
+    f.extend(segments.as_flattened());
+    if f[SecondSegments.at()] > 0 {
+        let ties = f[Kind.at()] == POST_TENSIONED && r.one_in(32);
+        if ties { tie(r, &mut f) } else { meet(r, &mut f) };
     }
+    let (ages, to_the_end, heaviest) = (f[Ages.at()], r.one_in(2), 1 << r.between(16, 38));
     let mut hour = f[Transfer.at()];
-    let to_the_end = r.one_in(2);
-    let heaviest = 1 << r.between(16, 38);
     for later in (0..ages).rev() {
         let left = LIFE - hour - (later + 1);
         hour += 1 + r.below((left / (later + 1)).max(1));
@@ -148,6 +174,102 @@ pub fn member(r: &mut Random) -> Vec<u64> {
         f.extend(age(hour, if r.one_in(3) { r.below(heaviest) } else { 0 }));
     }
     f
+}
+
+// ---- two paths
+
+/// The fields of a path's segments, each by itself.
+pub fn segments_of<'a>(f: &'a mut [u64], path: &Path) -> impl Iterator<Item = &'a mut [u64]> {
+    let fields = SEGMENT_FIELDS * path.start..SEGMENT_FIELDS * path.end;
+    f[HEAD_FIELDS..][fields].chunks_mut(SEGMENT_FIELDS)
+}
+
+/// The two paths of a member whose fields go as far as its segments at least.
+pub fn paths_of(f: &[u64]) -> [Path; 2] {
+    let (first, second) = (f[Segments.at()] as usize, f[SecondSegments.at()] as usize);
+    [0..first, first..first + second]
+}
+
+/// Of both together, in ticks of foot.
+pub fn length_of_paths(f: &[u64]) -> u64 {
+    let [first, second] = paths_of(f);
+    let member = Member(f.to_vec());
+    (member.path_length(&first) + member.path_length(&second)) as u64
+}
+
+/// Makes the tendon about as long as the two paths, which are shortened if no tendon is so long: often to the tick or within a foot; at
+/// times a foot apart, or a foot and a tick, which document 02's W9 refuses; at times it stays as it is.
+fn meet(r: &mut Random, f: &mut [u64]) {
+    let (most, natural) = (*range(Length).end(), length_of_paths(f));
+    let all = 0..paths_of(f)[1].end;
+    for segment in segments_of(f, &all).filter(|_| natural > most) {
+        let least = match segment[OfSegment::Kind as usize] {
+            STRAIGHT => 1,
+            PARABOLA => 1024,
+            _ => 0,
+        };
+        let length = &mut segment[OfSegment::Length as usize];
+        *length = (*length * most / natural).max(least);
+    }
+    let (both, foot) = (length_of_paths(f), MOST_APART as u64);
+    f[Length.at()] = match r.below(16) {
+        0 => return,
+        1 => both + foot,
+        2 => both + foot + 1,
+        3 => both.saturating_sub(foot),
+        4 => both.saturating_sub(foot + 1),
+        5..=8 => (both + r.below(2 * foot)).saturating_sub(foot),
+        _ => both,
+    }
+    .max(*range(Length).start());
+}
+
+/// Brings two paths to the same stress after slip by other losses, if it can. The one has bends alone, so that its slip goes over the
+/// tendon; along the other, of straights, the slip dies out. The curvature makes up for most of the friction that the bends lack, and Es
+/// for the rest.
+fn tie(r: &mut Random, f: &mut [u64]) {
+    let mut paths = paths_of(f);
+    if r.one_in(2) {
+        paths.reverse();
+    }
+    let [bends, straights] = paths;
+    segments_of(f, &bends).for_each(|fields| fields.copy_from_slice(&segment(BEND, 0, r.between(1, 200))));
+    segments_of(f, &straights).for_each(|fields| fields.copy_from_slice(&segment(STRAIGHT, r.between(4096, 32_768), 0)));
+    let both = length_of_paths(f).max(*range(Length).start());
+    for (field, number) in [(Length, both), (Slip, r.pick(&[64, 256, 384])), (Wobble, r.between(100, 1000))] {
+        f[field.at()] = number;
+    }
+    let along = Member(f.to_vec());
+    if along.x(&straights) > MOST_X || along.friction(&straights) <= along.slip_over_tendon() {
+        return;
+    }
+    let friction = along.friction(&straights);
+    let most = friction - along.slip_over_tendon();
+    let bent = |curvature: u64| {
+        let mut bent = along.clone();
+        bent.0[Curvature.at()] = curvature;
+        bent
+    };
+    let curvature = largest(range(Curvature), |curvature| {
+        let bent = bent(curvature);
+        bent.x(&bends) <= MOST_X && bent.friction(&bends) <= most
+    });
+    let slip = friction - bent(curvature).friction(&bends);
+    let es = (slip * INCHES_OF_FOOT * u128::from(both)).div_ceil(u128::from(f[Slip.at()]) * TICKS) as u64;
+    f[Curvature.at()] = curvature;
+    if range(Es).contains(&es) {
+        f[Es.at()] = es;
+    }
+}
+
+/// The largest number of a range at which this holds, if it holds from the range's start up to some number.
+pub fn largest(range: RangeInclusive<u64>, holds: impl Fn(u64) -> bool) -> u64 {
+    let (mut least, mut most) = range.into_inner();
+    while least < most {
+        let middle = least + (most - least).div_ceil(2);
+        (least, most) = if holds(middle) { (middle, most) } else { (least, middle - 1) };
+    }
+    least
 }
 
 /// The losses of a member, with room for every row.
@@ -168,7 +290,7 @@ fn columns(r: &mut Random, at: usize, number: u64) -> String {
 pub fn lines_of(r: &mut Random, f: &[u64]) -> String {
     let mut text = String::new();
     let (mut at, mut line) = (0, 0);
-    let segments = f[Segments.at()].min(MOST_SEGMENTS + 6) as usize;
+    let segments = [Segments, SecondSegments].map(|field| f[field.at()].min(MOST_SEGMENTS + 6) as usize).iter().sum::<usize>();
     let head = head_lines();
     while at < f.len() {
         let count = match line {

@@ -7,5 +7,5 @@ use Rattle.checks.proofs.codes.of_segments.Given as goal
 abbrev pub invariant-loop-place : goal.invariant-loop-place
 invariant-loop-place l =
     let left = l.place-iterator in
-    checked (segment_codes l.path.place (segments_of l.path.fields.now))
+    checked (segment_codes l.segments.place (segments_of l.segments.fields.now))
     ≡ checked (segment_codes left.place (segments_of left.fields.now))

@@ -7,5 +7,5 @@ use Rattle.checks.proofs.ranges.of_segments.Given as goal
 abbrev pub invariant-loop-place : goal.invariant-loop-place
 invariant-loop-place l =
     let left = l.place-iterator in
-    checked (ranges_of_segments l.path.place (segments_of l.path.fields.now))
+    checked (ranges_of_segments l.segments.place (segments_of l.segments.fields.now))
     ≡ checked (ranges_of_segments left.place (segments_of left.fields.now))

@@ -2,14 +2,14 @@
 use mathlib.Core.Path.{sym}
 use native.Mathlib.Omega.{arith}
 use Rattle.std.proofs.lemmas.Result.{err_from_is_err_and}
-use Rattle.fields.proofs.Counting.{age_count, few_segments}
+use Rattle.fields.proofs.Counting.{age_count, few}
 use Rattle.stages.proofs.Beginning.{begun_fits}
 use Rattle.entries.proofs.Accepting.{bounded, ages_fit, room, answers}
 use Rattle.entries.proofs.Answering.{none_begins, none_left, all_passed}
 use Rattle.entries.proofs.run.run_member.Goals as goal
 
 pub invariant_of-m : goal.invariant_of-m
-invariant_of-m c = record { bounded = bounded c.args.fields.now _ _ c.requires (few_segments _ _ c.fields.view_is c.fields.invariant) }
+invariant_of-m c = record { bounded = bounded c.args.fields.now _ _ c.requires (few _ _ c.fields.view_is c.fields.invariant) }
 
 pub returns-in_err-before : goal.returns-in_err-before
 returns-in_err-before c =
@@ -23,11 +23,11 @@ pub run_ages-requires : goal.run_ages-requires
 run_ages-requires c =
     let args = c.args in
     let fields = args.fields.now in
-    let few = few_segments _ _ c.fields.view_is c.fields.invariant in
+    let small = few _ _ c.fields.view_is c.fields.invariant in
     rw c.ages.ensures.ages (record {
       ages_fit = ages_fit fields args.report.now args.scratch.now args.member c.requires;
       transfer_is = c.end_at-transfer.ensures;
-      stress_fits = begun_fits _ _ (bounded fields _ _ c.requires few) (sym c.in_ok-before.ensures);
+      stress_fits = begun_fits _ _ (bounded fields _ _ c.requires small) (sym c.in_ok-before.ensures);
       scratch_room_fits = (room fields args.report.now args.scratch.now args.member c.requires).scratch_room_fits;
     })
 

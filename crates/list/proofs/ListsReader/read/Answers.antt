@@ -14,10 +14,13 @@ returns-in_err-counts c =
     let refused = counts_refused c.args.list.now c.args.numbers.now c.in_err-counts.ensures in
     record { value = refusal ∙ refused.value; numbers_after = refused.numbers_after }
 
+pub overflow_add-segments : goal.overflow_add-segments
+overflow_add-segments c = let fits = room c.args.list.now c.in_ok-counts.ensures in search rules
+
 pub read_fields-requires : goal.read_fields-requires
 read_fields-requires c =
     let fits = room c.args.list.now c.in_ok-counts.ensures in
-    record { room = omega arith; segments_listed = fits.1 }
+    record { room = omega arith; segments_listed = omega arith }
 
 given : (c : After-map_err) → Gives c.args.list.now c.args.numbers.now (onward c.map_err.result (λ done. Ok c.in_ok-counts.counts))
     c.read_fields.new.fields
