@@ -1,8 +1,8 @@
 // What reading a card or a list gives: its counts of the segments of its paths and of its ages, and its fields.
-ghost use Rattle.std.specs.Prelude.{◌≡◌, List, length};
+ghost use Rattle.std.specs.Prelude.{◌≡◌, ◌+◌, ◌*◌, List, length};
 ghost use Rattle.fields.specs.Limits.{◌to◌, count_within};
 ghost use Rattle.fields.specs.Quantities.{Quantities, is_pretensioned, is_moist, has_second_path, both_paths, quantities_of};
-ghost use Rattle.fields.specs.Quantities.{first_segment_field, first_age_field};
+ghost use Rattle.fields.specs.Quantities.{per_segment, first_segment_field, first_age_field};
 ghost use Rattle.fields.specs.Along.{segments_of, ages_of};
 ghost use Rattle.fields.specs.Outcomes.{Outcome, over};
 ghost use Rattle.fields.specs.Readable.{Readable, AcceptedIfRead};
@@ -80,14 +80,17 @@ impl<'a> Fields<'a> {
 
     // The first path's segments.
     pub fn path(&self) -> Parts<'a, Segment>
-        ensures { segments_of result.fields.now ≡ self.now.path }
+        ensures place { result.place ≡ first_segment_field }
+        ensures path { segments_of result.fields.now ≡ self.now.path }
     {
         Parts::of(self.numbers, HEAD_FIELDS, self.counts.segments)
     }
 
     // The second path's segments.
+    #[tactic(auto, using(crate::proofs::Counting::path_count))]
     pub fn second_path(&self) -> Parts<'a, Segment>
-        ensures { segments_of result.fields.now ≡ self.now.second_path }
+        ensures place { result.place ≡ first_segment_field + per_segment * length self.now.path }
+        ensures path { segments_of result.fields.now ≡ self.now.second_path }
     {
         let first = HEAD_FIELDS + PER_SEGMENT * self.counts.segments;
         Parts::of(self.numbers, first, self.counts.second_segments)
