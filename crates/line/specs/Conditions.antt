@@ -3,6 +3,11 @@ use Rattle.std.specs.Prelude.{ℕ, ◌+◌, ◌^◌, ◌≡◌, ◌≤◌, ◌<�
 use Rattle.line.specs.declared.lines.Unread.{Unread}
 use Rattle.line.specs.Lines.{line_length, Lines, read_line, read_lines}
 
+-- room for the numbers of a line of `count` fields, and numbers of fields, from `field` on, of 64 bits
+pub record LineFits (count field : ℕ) (fields : List ℕ) : Type 0 where
+  pub room : count ≤ length fields
+  pub numbered : field + count < 2 ^ 64
+
 -- how many fields some lines have
 abbrev pub fields_on : List ℕ → ℕ
 fields_on [] = 0
@@ -13,7 +18,7 @@ abbrev pub bytes_on : List ℕ → ℕ
 bytes_on [] = 0
 bytes_on (count ∷ counts) = line_length count + bytes_on counts
 
--- room for the numbers of these lines, and numbers of lines and of fields of 64 bits
+-- the same of lines of `counts` fields each, and numbers of lines of 64 bits
 pub record LinesFit (counts : List ℕ) (unread : Unread) (fields : List ℕ) : Type 0 where
   pub room : fields_on counts ≤ length fields
   pub numbered : unread.field + fields_on counts < 2 ^ 64

@@ -1,9 +1,11 @@
 // Lines of fields, of which one may be blank.
 #![tactic(auto)]
 
-ghost use Rattle.std.specs.Prelude.{◌≡◌, ◌≤◌, length, take};
+ghost use Rattle.std.specs.Prelude.{◌≡◌, ◌≤◌, ◌<◌, ◌^◌, length, take};
 ghost use Rattle.fields.specs.Quantities.{columns};
-ghost use Rattle.line.specs.Lines.{digits_of, field_of, blank_reads};
+ghost use Rattle.fields.specs.Outcomes.{over};
+ghost use Rattle.line.specs.Lines.{digits_of, field_of, blank_reads, line_length, is_shaped, is_right, line_numbers};
+ghost use Rattle.line.specs.Conditions.{LineFits};
 
 pub mod lines;
 
@@ -57,4 +59,40 @@ fn read_field(part: &[u8], blank: Option<Blank>, field: usize) -> Option<u64>
         Some(first) => digits(&bytes[first..]),
         None => blank_reads(blank, field),
     }
+}
+
+// Whether a line of `count` fields is all there and ends where it should.
+fn is_shaped(bytes: &[u8], count: usize) -> bool
+    requires { line_length count < 2 ^ 64 }
+    ensures { result ≡ is_shaped count bytes.now }
+{
+    bytes.get(COLUMNS * count) == Some(&LINE_FEED)
+}
+
+// The line at the front of some bytes: `count` fields, the first of them numbered `field`. Whether it is right; the numbers before its
+// first wrong field are written at the front of `fields`.
+pub fn read_line(
+    bytes: &[u8],
+    blank: Option<Blank>,
+    count: usize,
+    field: usize,
+    fields: &mut [u64],
+) -> bool
+    requires { LineFits count field fields.old }
+    ensures value { result ≡ is_right blank count field bytes.now }
+    ensures fields_after { fields.new ≡ over (line_numbers blank count field bytes.now) fields.old }
+{
+    if !is_shaped(bytes, count) {
+        return false;
+    }
+    // Document 01 names this form: the slice part beginning at a field's column is handed to the number reader.
+    let mut part = bytes;
+    for (done, number) in fields[..count].iter_mut().enumerate() {
+        match read_field(part, blank, field + done) {
+            Some(read) => *number = read,
+            None => return false,
+        }
+        part = &part[COLUMNS..];
+    }
+    true
 }

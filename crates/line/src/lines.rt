@@ -1,10 +1,10 @@
 // Lines one after the other.
-ghost use Rattle.std.specs.Prelude.{◌≡◌, ◌<◌, ◌^◌, ◌∷◌, [], Ok};
-ghost use Rattle.line.specs.Lines.{line_length, is_shaped, ended};
+ghost use Rattle.std.specs.Prelude.{◌≡◌, ◌∷◌, [], Ok};
+ghost use Rattle.line.specs.Lines.{ended};
 ghost use Rattle.fields.specs.Outcomes.{over};
 ghost use Rattle.line.specs.Conditions.{LinesFit, line_from, lines_from, GoesOn};
 
-use crate::{Blank, COLUMNS, LINE_FEED, read_field};
+use crate::{Blank, COLUMNS};
 
 // What is not read yet: the bytes from a line on, the numbers of that line and of its first field, and the field that may be blank.
 #[derive(Clone, Copy)]
@@ -15,14 +15,6 @@ pub struct Unread<'a> {
     pub blank: Option<Blank>,
 }
 
-// Whether a line of `count` fields is all there and ends where it should.
-fn is_shaped(bytes: &[u8], count: usize) -> bool
-    requires { line_length count < 2 ^ 64 }
-    ensures { result ≡ is_shaped count bytes.now }
-{
-    bytes.get(COLUMNS * count) == Some(&LINE_FEED)
-}
-
 impl<'a> Unread<'a> {
     // The next line, of `count` fields. The line's number, if it is wrong or missing; the numbers before its first wrong field are
     // written at the front of `fields`.
@@ -31,16 +23,10 @@ impl<'a> Unread<'a> {
         ensures value { GoesOn (line_from self.old count) (count ∷ []) self.old self.new result }
         ensures fields_after { fields.new ≡ over (line_from self.old count).numbers fields.old }
     {
-        if !is_shaped(self.bytes, count) {
+        if !crate::read_line(self.bytes, self.blank, count, self.field, fields) {
             return Err(self.line);
         }
-        // Document 01 names this form: the slice part beginning at a field's column is handed to the number reader.
-        let mut part = self.bytes;
-        for (done, number) in fields[..count].iter_mut().enumerate() {
-            *number = read_field(part, self.blank, self.field + done).ok_or(self.line)?;
-            part = &part[COLUMNS..];
-        }
-        self.bytes = &part[1..];
+        self.bytes = &self.bytes[COLUMNS * count + 1..];
         self.line += 1;
         self.field += count;
         Ok(())

@@ -2,25 +2,20 @@
 -- the buffer. Assumes nothing.
 use mathlib.Core.Path.{◌≡◌, refl, sym, ap, ◌∙◌}
 use mathlib.Core.List.{List}
-use Prim.Native.Nat.{ℕ, ◌+◌, ◌-◌, ◌*◌, ◌≤◌, ◌<◌}
+use Prim.Native.Nat.{ℕ, ◌+◌, ◌-◌, ◌*◌, ◌<◌}
 use native.Mathlib.Omega.{arith}
 use lib.ListN.{length, take, drop, length-take}
 use lib.Seq.{drop-drop}
-use Rattle.std.specs.Prelude.{Option, None, Result, Ok, Err}
-use Rattle.std.specs.Option.{ok_or}
+use Rattle.std.specs.Prelude.{Option}
 use Rattle.std.proofs.lemmas.List.{take_rest, take-append-drop, set-append_left, set-get_or}
-use Rattle.std.proofs.lemmas.Result.{err_from_is_err_and}
 use Rattle.fields.specs.Quantities.{columns}
 use Rattle.line.specs.Lines.{field_of}
 use Rattle.line.proofs.Amounts.{begins, turn, wrong_field, all_fields}
-use Rattle.line.proofs.lines.Unread.read_line.Goals as goal
+use Rattle.line.proofs.read_line.Goals as goal
 
 field_read : {part there : List ℕ} (reads : Option ℕ) {read : Option ℕ} → part ≡ there → read ≡ field_of reads (take columns part)
     → field_of reads (take columns there) ≡ read
 field_read reads same is = rw (← same) (sym is)
-
-same_line : (line wrong : ℕ) (read : Option ℕ) → read ≡ None → ◌≡◌ {A = Result ℕ ℕ} (Err wrong) (ok_or read line) → line ≡ wrong
-same_line line wrong read none e = let is : ◌≡◌ {A = Result ℕ ℕ} (Err wrong) (Err line) = rw none at e in cc
 
 -- the part behind some of what it begins with
 part_behind : {part : List ℕ} (bytes : List ℕ) (at more to : ℕ) → part ≡ drop at bytes → at + more ≡ to
@@ -42,36 +37,20 @@ loop-done-preserved c =
       part_is = part_behind _ (columns * loop.done) columns (columns * (loop.done + 1)) loop.invariant.part_is (omega arith);
       front =
           rw (← set-append_left loop.number-items)
-          (turn loop.invariant.front c.in_ok-number.field-0 (omega (arith, length-take {A = ℕ}))
-          (field_read _ loop.invariant.part_is c.read_field.ensures ∙ c.in_ok-number.ensures.ok_part));
+          (turn loop.invariant.front _ (omega (arith, length-take {A = ℕ}))
+          (field_read _ loop.invariant.part_is c.read_field.ensures ∙ c.in-Some.is));
     }
 
-pub returns-in_err-number : goal.returns-in_err-number
-returns-in_err-number c =
+pub returns-in-None : goal.returns-in-None
+returns-in-None c =
     let loop = c.loop-done in
-    let error = err_from_is_err_and c.from_residual.result c.from_residual.ensures.1 in
-    let none = c.in_err-number.ensures.ok_part in
     let wrong =
     wrong_field loop.invariant.front (omega (arith, length-take {A = ℕ}))
-    (field_read _ loop.invariant.part_is c.read_field.ensures ∙ none) in
-    record {
-      value =
-          rw (error.1, error.2, wrong.value)
-          (ap Err (same_line c.args.self.now.line c.in_err-number.field-0.0 c.read_field.result none c.in_err-number.ensures.value));
-      fields_after = rw set-get_or wrong.fields_after;
-    }
+    (field_read _ loop.invariant.part_is c.read_field.ensures ∙ c.in-None.is) in
+    record { value = sym wrong.value; fields_after = rw set-get_or wrong.fields_after }
 
-pub returns-clause-value : goal.returns-clause-value
-returns-clause-value c =
+pub returns : goal.returns
+returns c =
     let loop = c.loop-done in
-    let whole : c.args.count ≤ loop.done = omega (arith, length-take {A = ℕ}) in
-    let all = all_fields loop.invariant.front whole in
-    let within = loop.invariant.front.within in
-    record {
-      rest =
-          rw all.value
-          (ap Ok (sym (part_behind _ (columns * loop.done) 1 (columns * c.args.count + 1) loop.invariant.part_is (omega arith))));
-      line = refl;
-      field = omega arith;
-      blank = refl;
-    }
+    let all = all_fields loop.invariant.front (omega (arith, length-take {A = ℕ})) in
+    record { value = sym all.value; fields_after = all.fields_after }
