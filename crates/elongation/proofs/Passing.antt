@@ -1,20 +1,28 @@
 -- The sheet's own rows, one by one; and what is known of a card that passes all its checks: its fields fit, X of the first path is no more
 -- than the series takes, and the buffer has room. Assumes nothing.
-use mathlib.Core.Path.{◌≡◌}
+use mathlib.Core.Bool.{true}
+use mathlib.Core.Path.{◌≡◌, refl}
 use Prim.Native.Nat.{ℕ, ◌≤◌}
 use native.Mathlib.Omega.{arith}
 use lib.ListN.{length}
-use Rattle.std.specs.Prelude.{Ok}
+use Rattle.std.specs.Prelude.{Ok, Err}
+use Rattle.fields.specs.declared.refusal.Refusal.TheVariants.{Pretensioned}
 use Rattle.fields.specs.Outcomes.{onward}
-use Rattle.fields.specs.Quantities.{Quantities}
+use Rattle.fields.specs.Quantities.{Quantities, is_pretensioned}
 use Rattle.fields.specs.Limits.{most_friction}
-use Rattle.checks.specs.Rows.{checked_by}
+use Rattle.checks.specs.Rows.{checked, checked_by}
 use Rattle.checks.proofs.Cascade.{row_by_row, one_row, in_parts}
 use Rattle.member.specs.Checking.{BelowHours}
 use Rattle.member.specs.Constants.{friction_of}
 use Rattle.member.specs.Member.{codes_to_hours}
 use Rattle.member.proofs.Laws.{to_hours}
 use Rattle.elongation.specs.Sheet.{below_hours, sheet_rows}
+
+-- "13 when the card is pretensioned", ahead of the rows of the duct and the room
+pub kind_refuses : (q : Quantities) (room : ℕ) → is_pretensioned q ≡ true
+    → Err Pretensioned ≡ checked_by {A = Unit {0}} (below_hours q room) tt
+unfolding checked checked_by
+kind_refuses q room e = rw e refl
 
 -- those to "hours", and those below
 pub below_hours_last : (q : Quantities) (room : ℕ)

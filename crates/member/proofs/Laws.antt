@@ -24,7 +24,7 @@ use Rattle.fields.specs.declared.refusal.Refusal.TheVariants.{Codes, Ranges, Hou
 use Rattle.checks.specs.Places.{ranges_of_line1, ranges_of_line2, ranges_of_line3, ranges_of_line4}
 use Rattle.checks.specs.Rows.{CheckRow, checked, checked_by, head_codes, segment_codes, codes, ranges_of_segments}
 use Rattle.checks.specs.Rows.{ranges_of_moments, ranges, curing_fits, transfer_fits, hours_of_ages, hours, friction_row, buffers, section}
-use Rattle.checks.specs.Rows.{creep}
+use Rattle.checks.specs.Rows.{creep, kind_row, second_path_row}
 use Rattle.checks.proofs.Holding.{Holds, all_hold, part_holds, other_true, asked_true}
 use Rattle.checks.proofs.Cascade.{row_held, given_is, in_parts}
 use Rattle.member.specs.declared.Member.{Member}
@@ -301,6 +301,8 @@ to_hours q rows value e =
     }
 
 pub record DuctHeld {A : Type 0} (q : Quantities) (rows : List CheckRow) (value given : A) : Type 0 where
+  pub no_path : is_pretensioned q ≡ true → length q.path ≡ 0
+  pub no_second_path : is_pretensioned q ≡ true → length q.second_path ≡ 0
   pub friction_most : friction_of q q.path ≤ most_friction
   pub second_friction_most : friction_of q q.second_path ≤ most_friction
   pub below : checked_by rows value ≡ Ok given
@@ -308,12 +310,18 @@ pub record DuctHeld {A : Type 0} (q : Quantities) (rows : List CheckRow) (value 
 pub duct_held : {A : Type 0} (q : Quantities) (rows : List CheckRow) (value : A) {given : A}
     → checked_by (duct_rows q ++ rows) value ≡ Ok given → DuctHeld q rows value given
 duct_held q rows value e =
-    let kind = row_held Duct _ _ value e in
-    let second = row_held (λ place. SecondPath) _ _ value kind.below in
+    let pretensioned = is_pretensioned q in
+    let kind = row_held Duct (kind_row pretensioned (length q.path)).checks _ value e in
+    let second =
+    row_held (λ place. SecondPath) (second_path_row pretensioned (length q.second_path)).checks _ value kind.below in
+    let no_segments : (count : ℕ) → (not pretensioned || eqb count 0) ≡ true → pretensioned ≡ true → count ≡ 0 =
+    λ count. λ asked. λ is. eqb-true count 0 (asked_true pretensioned (eqb count 0) asked is) in
     let rubbed = row_held Duct (friction_row (friction_of q q.path)).checks _ value second.below in
     let second_rubbed = row_held Duct (friction_row (friction_of q q.second_path)).checks _ value rubbed.below in
     let lengths = row_held (λ place. PathLengths) _ _ value second_rubbed.below in
     record {
+      no_path = no_segments (length q.path) (all_hold _ kind.holds).0;
+      no_second_path = no_segments (length q.second_path) (all_hold _ second.holds).0;
       friction_most = leb-true (friction_of q q.path) most_friction (all_hold _ rubbed.holds).0;
       second_friction_most = leb-true (friction_of q q.second_path) most_friction (all_hold _ second_rubbed.holds).0;
       below = lengths.below;
@@ -375,6 +383,8 @@ accepted q report scratch e =
         second_fit = known.below_hours.second_fit;
         ages_rise = known.ages;
         moments_fit = known.moments;
+        no_path = ducted.no_path;
+        no_second_path = ducted.no_second_path;
         friction_most = ducted.friction_most;
         second_friction_most = ducted.second_friction_most;
         report_room_fits = leb-true (report_room (length q.ages)) report b.0;

@@ -143,6 +143,8 @@ pub record Facts (q : Quantities) (report scratch : ℕ) : Type 0 where
   pub second_fit : SegmentsFit q.second_path
   pub ages_rise : RisingFrom q.transfer q.ages
   pub moments_fit : MomentsWithin q.own_weight_moment q.ages
+  pub no_path : is_pretensioned q ≡ true → length q.path ≡ 0
+  pub no_second_path : is_pretensioned q ≡ true → length q.second_path ≡ 0
   pub friction_most : friction_of q q.path ≤ most_friction
   pub second_friction_most : friction_of q q.second_path ≤ most_friction
   pub report_room_fits : report_room (length q.ages) ≤ report

@@ -1,4 +1,4 @@
-mod Marked
-mod Slip
+pub mod Marked
+pub mod Slip
 mod Inserted
-mod OnePath
+pub mod OnePath
