@@ -1,6 +1,7 @@
 // The answer of a list or of a sheet on standard output.
 ghost use Rattle.std.specs.Prelude.{◌≤◌, length};
 
+use crate::lines::LINE_FEED;
 use elongation::Total;
 use fields::limits::{MOST_FIELDS, PER_ROW};
 use fields::refusal::Refusal;
@@ -34,12 +35,13 @@ fn print_before(rt: &impl Print, before: BeforeAges) {
     print_line(rt, |line| text::line_before_ages(before, line));
 }
 
-// The bits of a double, as one decimal number; of a NaN, an empty line.
+// The bits of a double, as one decimal number; of a NaN, an empty line. The line feed is written by itself, so that it stands though the
+// number was lost.
 fn print_bits(rt: &impl Print, double: f64) {
-    let _ = match ticks::bits_of(double) {
-        Some(bits) => println!(rt; "{bits}"),
-        None => println!(rt; ""),
-    };
+    if let Some(bits) = ticks::bits_of(double) {
+        let _ = print!(rt; "{bits}");
+    }
+    let _ = rt.write_all(&[LINE_FEED]);
 }
 
 // A line for each row of an accepted list's report: how many there are is read off the list once more.
