@@ -22,5 +22,5 @@ pub returns : goal.returns
 returns g c =
     let outcome = g.R.Reader.outcome c.args.input.now in
     let accepted = g.met.R.Reader.accepted c.args.input.now in
-    let given = c.in_ok-counts.ensures in
-    promised outcome accepted (same_read outcome accepted _ _ given.value given.numbers_after) (rw c.new.ensures at c.run_fields.ensures)
+    let read = c.in_ok-counts.ensures in
+    promised outcome accepted (same_read outcome accepted _ _ read.value read.numbers_after) (rw c.new.ensures at c.run_fields.ensures)

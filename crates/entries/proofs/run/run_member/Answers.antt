@@ -34,8 +34,8 @@ run_ages-requires c =
 pub returns-in_err-last : goal.returns-in_err-last
 returns-in_err-last c =
     let args = c.args in
-    let refused = err_from_is_err_and c.from_residual-in_err-last.result c.from_residual-in_err-last.ensures.1 in
-    rw (refused.1, refused.2)
+    let error = err_from_is_err_and c.from_residual-in_err-last.result c.from_residual-in_err-last.ensures.1 in
+    rw (error.1, error.2)
     (answers args.fields.now args.report.now args.scratch.now args.member c.requires
     (none_left args.member args.fields.now.ages args.report.now args.scratch.now _ (sym c.in_ok-before.ensures) _ _
     (rw c.ages.ensures.ages at c.run_ages.ensures) _ c.in_err-last.was))
