@@ -29,15 +29,19 @@ const SPACE: u8 = b' ';
 
 const BAR: u8 = b'|';
 
-// The base of digits, and how many a double's bits and a byte have.
+// The bases of digits, and how many a double's bits and a byte have.
+const DECIMAL: u64 = 10;
+
 const HEXADECIMAL: u64 = 16;
 
 const DIGITS_OF_DOUBLE: u64 = 16;
 
 const DIGITS_OF_BYTE: u64 = 2;
 
-// The weight of a double's highest digit.
+// The weight of a double's highest digit, and how many values a byte has.
 const HIGHEST: u64 = 1 << 60;
+
+const BYTE_VALUES: u64 = 256;
 
 // What the next byte of a line belongs to.
 #[derive(Clone, Copy)]
@@ -82,7 +86,7 @@ fn value_of(byte: u8) -> u64
 
 // A room of one decimal digit more.
 fn longer(room: u64, byte: u8) -> u64 {
-    room % HIGHEST * 10 + value_of(byte)
+    room % HIGHEST * DECIMAL + value_of(byte)
 }
 
 impl Line {
@@ -144,7 +148,7 @@ impl Line {
             }
             Part::Card => {
                 if let Some(bits) = self.number(DIGITS_OF_BYTE, byte) {
-                    self.keep(&mut kept.card, (bits % 256) as u8);
+                    self.keep(&mut kept.card, (bits % BYTE_VALUES) as u8);
                 }
             }
             Part::AnswerOfList | Part::AnswerOfSheet => {}
